@@ -1,0 +1,1 @@
+//! A build list played back, step by step, into any editable graph.
