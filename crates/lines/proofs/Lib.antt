@@ -1,0 +1,6 @@
+pub mod Steps
+pub mod Pieces
+pub mod Places
+pub mod Numbers
+pub mod Counts
+pub mod Bytes
