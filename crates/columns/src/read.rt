@@ -205,7 +205,8 @@ fn fields(layout: Layout, text: &[u8], at: usize) -> Result<Fields, usize>
 /// The line of the letter at `at`.
 fn line(text: &[u8], at: usize) -> Result<Line, usize>
     requires { ⌜ at < length (now text) ⌝ }
-    ensures { λ r. ⌜ r ≡ line-in (now (text .entry)) at (the-layout (the-byte (now (text .entry)) at)) ⌝ }
+    ensures answer { λ r. ⌜ r ≡ line-in (now (text .entry)) at (the-layout (the-byte (now (text .entry)) at)) ⌝ }
+    ensures within { λ r. ⌜ made r (λ _. at + 17 ≤ length (now (text .entry))) ⌝ }
 {
     let letter = byte(text, at) as char;
     let Some(layout) = layout(letter) else {
@@ -226,6 +227,8 @@ pub fn read_line(text: &[u8], at: usize) -> Result<Line, usize>
     ensures answer { λ r. ⌜ r ≡ line-at (now (text .entry)) at ⌝ }
     // in other words: the line whose text stands there, or the end of the longest beginning of some line
     ensures form { λ r. ⌜ Line-read (now (text .entry)) at r ⌝ }
+    // a line that is read lies in the text
+    ensures within { λ r. ⌜ made r (λ _. at + 17 ≤ length (now (text .entry))) ⌝ }
 {
     if at < text.len() { line(text, at) } else { Err(at) }
 }
