@@ -1,0 +1,5 @@
+pub mod First
+pub mod Joins
+pub mod Inner
+pub mod Going
+pub mod Plays

@@ -30,18 +30,18 @@ Accepted-exactly m t l r g = m ≡ no-joins (table-count m) → (r ≡ Ok tt) �
 
 abbrev pub Accepted-with-room : ℕ → Graph → Triangle → List Step → Result Unit ReplayFault → Type 0
 Accepted-with-room capacity m t l r = m ≡ no-joins (table-count m) → 3 + length l ≤ capacity
-  → (r ≡ Ok tt) ↔ ((h : Graph) × (table-count h ≡ table-count m) × Legal-build h t l)
+    → (r ≡ Ok tt) ↔ ((h : Graph) × (table-count h ≡ table-count m) × Legal-build h t l)
 
 abbrev pub conditions : ℕ → (ℕ → Bool) → Graph → Step → List (Bool × ℕ)
 conditions capacity U g (Edge v w) =
-    ( (not (is-table g v && is-table g w), 1)
+    ((not (is-table g v && is-table g w), 1)
     ∷ (eqb v w, 2)
     ∷ (not (U v && U w), 13)
     ∷ (joined g v w, 3)
     ∷ (leb capacity (size g), 5)
     ∷ [])
 conditions capacity U g (Node u v w) =
-    ( (not (is-table g u && (is-table g v && is-table g w)), 1)
+    ((not (is-table g u && (is-table g v && is-table g w)), 1)
     ∷ (eqb u v || (eqb u w || eqb v w), 2)
     ∷ (U u, 12)
     ∷ (not (U v && U w), 13)
@@ -51,7 +51,7 @@ conditions capacity U g (Node u v w) =
 
 abbrev pub Refused-at-first : ℕ → Graph → Triangle → List Step → Result Unit ReplayFault → Graph → Type 0
 Refused-at-first capacity m t l r g = m ≡ no-joins (table-count m) → (f : ReplayFault) → r ≡ Err f → 1 ≤ replay-step f
-  → (before : List Step) × (s : Step) × (rest : List Step) × (U : ℕ → Bool)
+    → (before : List Step) × (s : Step) × (rest : List Step) × (U : ℕ → Bool)
     × (drop (replay-step f - 1) l ≡ s ∷ rest) × (take (replay-step f - 1) l ≡ before)
     × Builds (triangle t) before (record { in-use = U; joins = joined g })
     × (refused-first (conditions capacity U g s) ≡ Err (replay-number f))

@@ -35,7 +35,7 @@ pub record Played : Type 0 where
 
 abbrev pub start-answer : Graph → ℕ → Triangle → Result Unit ReplayFault
 start-answer m capacity t = refused-first
-    ( (some-join m, HasJoins)
+    ((some-join m, HasJoins)
     ∷ (not (ltb (t .a) (t .b) && (ltb (t .b) (t .c) && is-table m (t .c))), NotTriangle)
     ∷ (ltb capacity 3, Store 0 (Full capacity))
     ∷ [])
@@ -48,7 +48,7 @@ started m t = record {
 
 unfoldable pub step-answer : ℕ → ℕ → Building → Step → Result Unit ReplayFault
 step-answer capacity k b (Edge v w) = refused-first
-    ( (not (is-table (b .graph) v), Store k (UnknownTable v))
+    ((not (is-table (b .graph) v), Store k (UnknownTable v))
     ∷ (not (is-table (b .graph) w), Store k (UnknownTable w))
     ∷ (eqb v w, Store k (SameTable v))
     ∷ (not (b .used v), NotInUse k v)
@@ -57,7 +57,7 @@ step-answer capacity k b (Edge v w) = refused-first
     ∷ (leb capacity (size (b .graph)), Store k (Full capacity))
     ∷ [])
 step-answer capacity k b (Node u v w) = refused-first
-    ( (not (is-table (b .graph) u), Store k (UnknownTable u))
+    ((not (is-table (b .graph) u), Store k (UnknownTable u))
     ∷ (not (is-table (b .graph) v), Store k (UnknownTable v))
     ∷ (not (is-table (b .graph) w), Store k (UnknownTable w))
     ∷ (eqb u v, Store k (SameTable u))

@@ -29,3 +29,40 @@ pub enum ReplayFault {
     /// 14: the lowest table that no step has put into use.
     Unused { table: u32 },
 }
+
+impl ReplayFault {
+    /// The refusal's number: a store's refusal keeps its own.
+    pub fn number(self) -> u32
+        ensures { λ r. ⌜ r ≡ replay-number self ⌝ }
+    {
+        match self {
+            ReplayFault::Store { step: _, fault } => fault.number(),
+            ReplayFault::HasJoins => 10,
+            ReplayFault::NotTriangle => 11,
+            ReplayFault::InUse { step: _, table: _ } => 12,
+            ReplayFault::NotInUse { step: _, table: _ } => 13,
+            ReplayFault::Unused { table: _ } => 14,
+        }
+    }
+}
+
+pub impl From<AtStep> for ReplayFault as ReplayFaultFromAtStep {
+    ghost converts = { λ p r. r ≡ Store (p .step) (p .fault) };
+
+    fn from(p: AtStep) -> ReplayFault {
+        ReplayFault::Store {
+            step: p.step,
+            fault: p.fault,
+        }
+    }
+}
+
+/// A store's answer, with the step that it was given at.
+pub fn at_step(step: usize, r: Result<(), StoreFault>) -> Result<(), AtStep>
+    ensures { λ o. ⌜ o ≡ marked step r ⌝ }
+{
+    match r {
+        Ok(done) => Ok(done),
+        Err(fault) => Err(AtStep { step, fault }),
+    }
+}

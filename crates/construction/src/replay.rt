@@ -1,1 +1,261 @@
 //! A build list played back, step by step, into any editable graph.
+ghost use mathlib.Core.Path.{_≡_};
+ghost use mathlib.Core.Bool.{Bool, true, false};
+ghost use Prim.Native.Nat.{ℕ, _+_, _≤_, _<_};
+ghost use lib.ListN.{getD};
+ghost use Rattle.std.specs.declared.result.Result.the-variants.{Ok, Err};
+ghost use Rattle.theory.specs.Graph.{joined as joins, table-count, some-join};
+ghost use Rattle.theory.specs.declared.step.Step.the-variants.{Edge, Node};
+ghost use Rattle.construction.specs.Replay.{start-answer, started, step-answer, step-after, close-from, replayed};
+ghost use Rattle.construction.specs.Inner.{flagged, under-way, left, Within-use, used-answer, edge-used, named-answer, node-judged, full-answer, spliced};
+use super::fault::AtStep;
+use super::fault::ReplayFault;
+use super::fault::ReplayFaultFromAtStep;
+use super::fault::at_step;
+use graph::fault::StoreFault;
+use graph::graph::EditableGraph;
+use graph::graph::ReadableGraph;
+use theory::step::Step;
+use theory::step::Triangle;
+
+/// Whether there is any join: a table that has a neighbour.
+fn has_joins<G: ReadableGraph>(graph: &G) -> bool
+    ensures { λ r. ⌜ r ≡ some-join (meaning (now (graph .entry))) ⌝ }
+{
+    for t in 0..graph.tables() {
+        if let Some(_) = graph.next_neighbour(t, 0) {
+            return true;
+        }
+    }
+    false
+}
+
+/// What stands against a triangle at the start: 10, 11 and 5.
+fn judge_start<G: EditableGraph>(graph: &G, t: Triangle) -> Result<(), ReplayFault>
+    ensures { λ r. ⌜ r ≡ start-answer (G·ReadableGraph .meaning (now (graph .entry))) (limit (now (graph .entry))) t ⌝ }
+{
+    if has_joins(graph) {
+        return Err(ReplayFault::HasJoins);
+    }
+    if !(t.a < t.b && t.b < t.c && t.c < graph.tables()) {
+        return Err(ReplayFault::NotTriangle);
+    }
+    let capacity = graph.capacity();
+    if capacity < 3 {
+        at_step(0, Err(StoreFault::Full { capacity }))?;
+    }
+    Ok(())
+}
+
+/// Joins the three tables of a triangle that nothing stands against: the store refuses none of its joins.
+fn lay<G: EditableGraph>(graph: &mut G, t: Triangle) -> Result<(), ReplayFault>
+    requires { ⌜ start-answer (G·ReadableGraph .meaning (now graph)) (limit (now graph)) t ≡ Ok tt ⌝ }
+    ensures answer { λ r. ⌜ r ≡ Ok tt ⌝ }
+    ensures meant { λ _. ⌜ G·ReadableGraph .meaning (now (graph .exit)) ≡ started (G·ReadableGraph .meaning (now (graph .entry))) t .graph ⌝ }
+    ensures same { λ _. ⌜ limit (now (graph .exit)) ≡ limit (now (graph .entry)) ⌝ }
+{
+    at_step(0, graph.join(t.a, t.b))?;
+    at_step(0, graph.join(t.a, t.c))?;
+    at_step(0, graph.join(t.b, t.c))?;
+    Ok(())
+}
+
+/// The triangle, on flags that are all down.
+fn start<G: EditableGraph>(
+    graph: &mut G,
+    used: &mut [bool; 64],
+    t: Triangle,
+) -> Result<(), ReplayFault>
+    requires { ⌜ ((k : ℕ) → flagged (now used) k ≡ false) ⌝ }
+    ensures answer { λ r. ⌜ r ≡ start-answer (G·ReadableGraph .meaning (now (graph .entry))) (limit (now (graph .entry))) t ⌝ }
+    ensures meant { λ r. ⌜ under-way (G·ReadableGraph .meaning (now (graph .exit))) (now (used .exit)) ≡ left r (started (G·ReadableGraph .meaning (now (graph .entry))) t) (under-way (G·ReadableGraph .meaning (now (graph .entry))) (now (used .entry))) ⌝ }
+    ensures same { λ _. ⌜ limit (now (graph .exit)) ≡ limit (now (graph .entry)) ⌝ }
+{
+    judge_start(graph, t)?;
+    lay(graph, t)?;
+    used[t.a as usize] = true;
+    used[t.b as usize] = true;
+    used[t.c as usize] = true;
+    Ok(())
+}
+
+/// 13 where a table that a step needs is not in use.
+fn in_use(used: &[bool; 64], step: usize, table: u32) -> Result<(), ReplayFault>
+    requires { ⌜ table < 64 ⌝ }
+    ensures { λ r. ⌜ r ≡ used-answer (flagged (now (used .entry))) step table ⌝ }
+{
+    if used[table as usize] {
+        Ok(())
+    } else {
+        Err(ReplayFault::NotInUse { step, table })
+    }
+}
+
+/// 13 for an edge step. Where the store will refuse with 1 or 2, which come first, it is left to do so.
+fn judge_edge(
+    used: &[bool; 64],
+    tables: u32,
+    step: usize,
+    v: u32,
+    w: u32,
+) -> Result<(), ReplayFault>
+    requires { ⌜ tables ≤ 64 ⌝ }
+    ensures { λ r. ⌜ r ≡ edge-used tables (flagged (now (used .entry))) step v w ⌝ }
+{
+    if v < tables && w < tables && v != w {
+        in_use(used, step, v)?;
+        in_use(used, step, w)?;
+    }
+    Ok(())
+}
+
+/// An edge step.
+fn take_edge<G: EditableGraph>(
+    graph: &mut G,
+    used: &[bool; 64],
+    step: usize,
+    v: u32,
+    w: u32,
+) -> Result<(), ReplayFault>
+    ensures answer { λ r. ⌜ r ≡ step-answer (limit (now (graph .entry))) step (under-way (G·ReadableGraph .meaning (now (graph .entry))) (now (used .entry))) (Edge v w) ⌝ }
+    ensures meant { λ r. ⌜ under-way (G·ReadableGraph .meaning (now (graph .exit))) (now (used .entry)) ≡ left r (step-after (under-way (G·ReadableGraph .meaning (now (graph .entry))) (now (used .entry))) (Edge v w)) (under-way (G·ReadableGraph .meaning (now (graph .entry))) (now (used .entry))) ⌝ }
+    ensures same { λ _. ⌜ limit (now (graph .exit)) ≡ limit (now (graph .entry)) ⌝ }
+{
+    judge_edge(used, graph.tables(), step, v, w)?;
+    at_step(step, graph.join(v, w))?;
+    Ok(())
+}
+
+/// 1 and 2 for the tables of a node step.
+fn named(tables: u32, u: u32, v: u32, w: u32) -> Result<(), StoreFault>
+    ensures { λ r. ⌜ r ≡ named-answer tables u v w ⌝ }
+{
+    if u >= tables {
+        Err(StoreFault::UnknownTable { table: u })
+    } else if v >= tables {
+        Err(StoreFault::UnknownTable { table: v })
+    } else if w >= tables {
+        Err(StoreFault::UnknownTable { table: w })
+    } else if u == v || u == w {
+        Err(StoreFault::SameTable { table: u })
+    } else if v == w {
+        Err(StoreFault::SameTable { table: v })
+    } else {
+        Ok(())
+    }
+}
+
+/// All that can be wrong with a node step but 5.
+fn judge_node<G: ReadableGraph>(
+    graph: &G,
+    used: &[bool; 64],
+    step: usize,
+    u: u32,
+    v: u32,
+    w: u32,
+) -> Result<(), ReplayFault>
+    ensures { λ r. ⌜ r ≡ node-judged (meaning (now (graph .entry))) (flagged (now (used .entry))) step u v w ⌝ }
+{
+    at_step(step, named(graph.tables(), u, v, w))?;
+    if used[u as usize] {
+        return Err(ReplayFault::InUse { step, table: u });
+    }
+    in_use(used, step, v)?;
+    in_use(used, step, w)?;
+    if !graph.joined(v, w) {
+        at_step(step, Err(StoreFault::NotJoined { a: v, b: w }))?;
+    }
+    Ok(())
+}
+
+/// Puts table `u`, which has no joins, into the join of `v` and `w`. Only the first of the three edits can be
+/// refused, by 5, and then nothing has changed.
+fn splice<G: EditableGraph>(
+    graph: &mut G,
+    step: usize,
+    u: u32,
+    v: u32,
+    w: u32,
+) -> Result<(), ReplayFault>
+    requires tables { ⌜ u < table-count (G·ReadableGraph .meaning (now graph)) ⌝ ∗ ⌜ v < table-count (G·ReadableGraph .meaning (now graph)) ⌝ ∗ ⌜ w < table-count (G·ReadableGraph .meaning (now graph)) ⌝ }
+    requires apart { ⌜ (u ≡ v → ⊥) ⌝ ∗ ⌜ (u ≡ w → ⊥) ⌝ ∗ ⌜ (v ≡ w → ⊥) ⌝ }
+    requires alone { ⌜ ((x : ℕ) → joins (G·ReadableGraph .meaning (now graph)) u x ≡ false) ⌝ }
+    requires held { ⌜ joins (G·ReadableGraph .meaning (now graph)) v w ≡ true ⌝ }
+    ensures answer { λ r. ⌜ r ≡ full-answer (G·ReadableGraph .meaning (now (graph .entry))) (limit (now (graph .entry))) step ⌝ }
+    ensures meant { λ r. ⌜ G·ReadableGraph .meaning (now (graph .exit)) ≡ left r (spliced (G·ReadableGraph .meaning (now (graph .entry))) u v w) (G·ReadableGraph .meaning (now (graph .entry))) ⌝ }
+    ensures same { λ _. ⌜ limit (now (graph .exit)) ≡ limit (now (graph .entry)) ⌝ }
+{
+    at_step(step, graph.join(u, v))?;
+    at_step(step, graph.unjoin(v, w))?;
+    at_step(step, graph.join(u, w))?;
+    Ok(())
+}
+
+/// A node step.
+fn take_node<G: EditableGraph>(
+    graph: &mut G,
+    used: &mut [bool; 64],
+    step: usize,
+    u: u32,
+    v: u32,
+    w: u32,
+) -> Result<(), ReplayFault>
+    requires { ⌜ Within-use (G·ReadableGraph .meaning (now graph)) (flagged (now used)) ⌝ }
+    ensures answer { λ r. ⌜ r ≡ step-answer (limit (now (graph .entry))) step (under-way (G·ReadableGraph .meaning (now (graph .entry))) (now (used .entry))) (Node u v w) ⌝ }
+    ensures meant { λ r. ⌜ under-way (G·ReadableGraph .meaning (now (graph .exit))) (now (used .exit)) ≡ left r (step-after (under-way (G·ReadableGraph .meaning (now (graph .entry))) (now (used .entry))) (Node u v w)) (under-way (G·ReadableGraph .meaning (now (graph .entry))) (now (used .entry))) ⌝ }
+    ensures same { λ _. ⌜ limit (now (graph .exit)) ≡ limit (now (graph .entry)) ⌝ }
+{
+    judge_node(graph, used, step, u, v, w)?;
+    splice(graph, step, u, v, w)?;
+    used[u as usize] = true;
+    Ok(())
+}
+
+/// One step of the list.
+fn take_step<G: EditableGraph>(
+    graph: &mut G,
+    used: &mut [bool; 64],
+    number: usize,
+    step: Step,
+) -> Result<(), ReplayFault>
+    requires { ⌜ Within-use (G·ReadableGraph .meaning (now graph)) (flagged (now used)) ⌝ }
+    ensures answer { λ r. ⌜ r ≡ step-answer (limit (now (graph .entry))) number (under-way (G·ReadableGraph .meaning (now (graph .entry))) (now (used .entry))) step ⌝ }
+    ensures meant { λ r. ⌜ under-way (G·ReadableGraph .meaning (now (graph .exit))) (now (used .exit)) ≡ left r (step-after (under-way (G·ReadableGraph .meaning (now (graph .entry))) (now (used .entry))) step) (under-way (G·ReadableGraph .meaning (now (graph .entry))) (now (used .entry))) ⌝ }
+    ensures same { λ _. ⌜ limit (now (graph .exit)) ≡ limit (now (graph .entry)) ⌝ }
+{
+    match step {
+        Step::Edge { v, w } => take_edge(graph, used, number, v, w),
+        Step::Node { u, v, w } => take_node(graph, used, number, u, v, w),
+    }
+}
+
+/// The lowest table not in use, as 14.
+fn close(used: &[bool; 64], tables: u32) -> Result<(), ReplayFault>
+    requires { ⌜ tables ≤ 64 ⌝ }
+    ensures { λ r. ⌜ r ≡ close-from 0 tables (flagged (now (used .entry))) ⌝ }
+{
+    for t in 0..tables {
+        if !used[t as usize] {
+            return Err(ReplayFault::Unused { table: t });
+        }
+    }
+    Ok(())
+}
+
+/// Plays a build list into a graph that has no joins, up to the first step that is refused.
+pub fn replay<G: EditableGraph>(
+    graph: &mut G,
+    triangle: Triangle,
+    steps: &[Step],
+) -> Result<(), ReplayFault>
+    ensures answer { λ r. ⌜ r ≡ replayed (limit (now (graph .entry))) (G·ReadableGraph .meaning (now (graph .entry))) triangle (now (steps .entry)) .told ⌝ }
+    ensures meant { λ _. ⌜ G·ReadableGraph .meaning (now (graph .exit)) ≡ replayed (limit (now (graph .entry))) (G·ReadableGraph .meaning (now (graph .entry))) triangle (now (steps .entry)) .graph ⌝ }
+    ensures same { λ _. ⌜ limit (now (graph .exit)) ≡ limit (now (graph .entry)) ⌝ }
+{
+    let mut used = [false; 64];
+    start(graph, &mut used, triangle)?;
+    for (i, step) in steps.iter().enumerate() {
+        take_step(graph, &mut used, i + 1, *step)?;
+    }
+    close(&used, graph.tables())
+}

@@ -1,11 +1,9 @@
 -- The text of a line has 17 bytes, none of them 0: so the beginning of a line lies within the text that it is read from.
-use mathlib.Core.Path.{_≡_, refl, sym, ap, _∙_}
+use mathlib.Core.Path.{_≡_, refl}
 use mathlib.Core.Logic.{⊎-elim}
-use mathlib.Core.Bool.{cond, not, _&&_}
 use mathlib.Core.List.{List, [], _∷_, _++_}
-use Prim.Native.Nat.{ℕ, zero, suc, pred, _+_, _-_, _/_, _%_, _^_, _≤_, _<_}
+use Prim.Native.Nat.{ℕ, zero, suc, _+_, _-_, _≤_, _<_}
 use native.Mathlib.Omega.{arith}
-use lib.Dec.{eqb}
 use lib.IntN.{ℤ, pos, negsuc}
 use lib.ListN.{length, getD}
 use Rattle.std.proofs.shelf.Tests.{cases-lt}
@@ -20,10 +18,12 @@ use Rattle.lines.specs.declared.line.Line.{Line}
 use Rattle.lines.specs.Text.{layout, place-text, place-below, numeral, numeral-below, number-text, unused-text, count-text, optional-text, fields-text, line-text, Written}
 use Rattle.lines.specs.Form.{Begins}
 
+-- a row count has ten characters
 pub count-length : (z : ℤ) → length (count-text z) ≡ 10
 count-length (pos n) = refl
 count-length (negsuc n) = refl
 
+-- a number or an unused field has five
 pub optional-length : (o : Option ℕ) → length (optional-text o) ≡ 5
 optional-length None = refl
 optional-length (Some v) = refl
@@ -38,6 +38,7 @@ fields-length (Counted t (negsuc n)) = refl
 fields-length (Single None) = refl
 fields-length (Single (Some v)) = refl
 
+-- a line has 17 bytes
 pub line-length : (l : Line) → length (line-text l) ≡ 17
 line-length l = simp (length-append, fields-length)
 
@@ -46,21 +47,25 @@ abbrev Bytes : List ℕ → Type 0
 Bytes [] = Unit {0}
 Bytes (b ∷ l) = ((1 ≤ b) × (b < 256)) × Bytes l
 
+-- each byte of such a list
 bytes-at : (l : List ℕ) (j : ℕ) → Bytes l → j < length l → (1 ≤ getD l j 0) × (getD l j 0 < 256)
 bytes-at [] j h k = absurd (omega arith)
 bytes-at (b ∷ l) zero h k = h .0
 bytes-at (b ∷ l) (suc j) h k = bytes-at l j (h .1) (omega arith)
 
+-- one list after another
 bytes-both : (l m : List ℕ) → Bytes l → Bytes m → Bytes (l ++ m)
 bytes-both [] m h k = k
 bytes-both (b ∷ l) m h k = (h .0, bytes-both l m (h .1) k)
 
+-- what stands at a place
 place-byte : (k v : ℕ) → (1 ≤ place-text k v) × (place-text k v < 256)
 place-byte k v = grind (arith, tells)
 
 below-byte : (k v : ℕ) → (1 ≤ place-below k v) × (place-below k v < 256)
 below-byte k v = grind (arith, tells)
 
+-- the fields
 numeral-bytes : (k v : ℕ) → Bytes (numeral k v)
 numeral-bytes zero v = tt
 numeral-bytes (suc k) v = (place-byte k v, numeral-bytes k v)
@@ -85,6 +90,7 @@ fields-bytes (Single (Some v)) = bytes-both (number-text v) (unused-text ++ unus
 pub letter-byte : (c : ℕ) (y : Layout) → layout c ≡ Some y → (1 ≤ c) × (c < 256)
 letter-byte c y e = grind (arith, tells)
 
+-- each byte of a line is at least 1 and below 256
 pub line-bytes : (l : Line) → Written l → (j : ℕ) → j < 17 → (1 ≤ getD (line-text l) j 0) × (getD (line-text l) j 0 < 256)
 line-bytes l w j h =
     let feed : (1 ≤ 10) × (10 < 256) = omega arith in

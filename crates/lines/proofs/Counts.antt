@@ -3,15 +3,14 @@ use mathlib.Core.Path.{_≡_, refl, sym, ap, subst, fun-ext, _∙_}
 use mathlib.Core.Logic.{_↔_, ⊎-elim}
 use mathlib.Core.Bool.{Bool, true, false, not}
 use mathlib.Core.List.{List, [], _∷_}
-use Prim.Native.Nat.{ℕ, zero, suc, pred, _+_, _-_, _*_, _/_, _^_, _≤_, _<_}
+use Prim.Native.Nat.{ℕ, zero, suc, pred, _+_, _-_, _*_, _/_, _^_}
 use native.Mathlib.Omega.{arith}
 use native.Mathlib.Nat.{div-one}
 use lib.Dec.{eqb}
 use lib.IntN.{ℤ, pos, negsuc}
 use Rattle.std.proofs.shelf.Tests.{cases-bool, false≢true, true≢false}
 use Rattle.std.proofs.shelf.Ways.{tells}
-use Rattle.std.specs.declared.result.Result.{Result}
-use Rattle.std.specs.declared.result.Result.the-variants.{Ok, Err}
+use Rattle.std.specs.declared.result.Result.the-variants.{Ok}
 use Rattle.lines.specs.Text.{place-text, place-below, count-text, Count-fits}
 use Rattle.lines.specs.Read.{byte, count-from, count-at}
 use Rattle.lines.proofs.Steps.{count-digit-may, count-blank-may, sign-may, count-done, count-digit, count-blank, count-sign, count-stop}
@@ -23,14 +22,17 @@ abbrev pub Left : ℕ → Bool → ℕ → ℤ → Type 0
 Left k neg value (pos n) = (neg ≡ false) × (n / 10 ^ k ≡ value)
 Left k neg value (negsuc n) = (suc n / 10 ^ k ≡ value) × (neg ≡ not (eqb (suc n / 10 ^ pred k) 0))
 
+-- the byte at the place of 10 ^ k
 abbrev pub first : ℕ → ℤ → ℕ
 first k (pos n) = place-text k n
 first k (negsuc n) = place-below k (suc n)
 
+-- the last k bytes
 abbrev pub last : ℕ → ℤ → List ℕ
 last zero z = []
 last (suc k) z = first k z ∷ last k z
 
+-- the kind of the row counts that are left
 abbrev pub count-places : ℕ → Bool → ℕ → Kind ℤ
 count-places k neg value = record { Fit = Left k neg value; text-of = last k; width = k }
 
@@ -38,6 +40,7 @@ count-places k neg value = record { Fit = Left k neg value; text-of = last k; wi
 abbrev pub Open : ℕ → Bool → ℕ → Type 0
 Open k neg value = neg ≡ true → value ≡ 0 → k ≡ 0 → ⊥
 
+-- some row count is left
 some-count : (k : ℕ) (neg : Bool) (value : ℕ) → Open k neg value → (z : ℤ) × Left k neg value z
 some-count k false value o = (pos (value * 10 ^ k), (refl, some-place k value))
 some-count k true (suc value) o =
@@ -68,6 +71,7 @@ abbrev Was : ℕ → Bool → ℕ → ℕ → ℤ → Type 0
 Was k neg value b z = Left (suc k) neg value z × (first k z ≡ b)
 
 module _ (k : ℕ) (neg : Bool) (value b : ℕ) where
+  -- what each byte leaves
   digit : count-digit-may k neg value b ≡ true → (z : ℤ) → Was k neg value b z ↔ Left k neg (value * 10 + (b - 48)) z
   digit d (pos n) = rw (place-up n k) (count-digit-above k neg value b d (n / 10 ^ k))
   digit d (negsuc n) = rw (place-up (suc n) k) (count-digit-below k neg value b d (suc n / 10 ^ k) (suc n / 10 ^ pred k) (next n k))
@@ -84,6 +88,7 @@ module _ (k : ℕ) (neg : Bool) (value b : ℕ) where
   none d s m (pos n) = rw (place-up n k) (none-above k neg value b d s m (n / 10 ^ k))
   none d s m (negsuc n) = rw (place-up (suc n) k) (none-below k neg value b d s m (suc n / 10 ^ k) (suc n / 10 ^ pred k) (next n k))
 
+-- reading the last k places
 pub count-places-read : (text : List ℕ) (k i : ℕ) (neg : Bool) (value : ℕ) → Open k neg value → Piece (count-places k neg value) text i (count-from text i k neg value)
 count-places-read text zero i false value o = rw (count-done text i false value) (here text i (Left 0 false value) (last 0) (pos value) (refl, div-one value) (done-above value))
 count-places-read text zero i true value o =
@@ -118,18 +123,22 @@ count-places-read text (suc k) i neg value o =
 abbrev pub counts : Kind ℤ
 counts = record { Fit = Count-fits; text-of = count-text; width = 10 }
 
+-- its text by places
 count-same : (z : ℤ) → last 10 z ≡ count-text z
 count-same (pos n) = refl
 count-same (negsuc n) = refl
 
+-- at the start those that fit are left
 count-left : (z : ℤ) → Left 10 false 0 z ↔ Count-fits z
 count-left (pos n) = (λ l. omega arith, λ l. (refl, omega arith))
 count-left (negsuc n) = (λ l. grind (arith, tells), λ l. grind (arith, tells))
 
+-- reading it
 pub count-read : (text : List ℕ) (i : ℕ) → Piece counts text i (count-at text i)
 count-read text i =
     subst (λ t. Piece (record { Fit = Count-fits; text-of = t; width = 10 }) text i (count-at text i)) (fun-ext count-same)
     (refit (count-places 10 false 0) Count-fits count-left text i (count-at text i) (count-places-read text 10 i false 0 (λ f. absurd (false≢true f))))
 
+-- a row count that is read fits
 pub count-small : (text : List ℕ) (i : ℕ) (z : ℤ) → count-at text i ≡ Ok z → Count-fits z
 count-small text i z e = let p : Piece counts text i (Ok z) = rw e at (count-read text i) in p .fits

@@ -4,3 +4,5 @@ pub mod Places
 pub mod Numbers
 pub mod Counts
 pub mod Bytes
+pub mod Fields
+pub mod Lines

@@ -3,18 +3,20 @@
 --   q is v / 10 ^ k, so that v / 10 ^ suc k is q / 10
 use mathlib.Core.Path.{_≡_, refl, sym, ap, _∙_}
 use mathlib.Core.Logic.{_↔_, _⊎_, inl, inr}
-use mathlib.Core.Bool.{Bool, true, false, cond, not, _&&_, _||_}
+use mathlib.Core.Bool.{Bool, true, false, cond, not, _&&_}
 use Prim.Native.Nat.{ℕ, zero, suc, pred, _+_, _-_, _*_, _/_, _%_, _^_, _≤_, _<_}
 use native.Mathlib.Omega.{arith}
 use native.Mathlib.Nat.{pow-suc, div-div-eq-div-mul, div-one, mul-div-left}
-use lib.Dec.{eqb, leb}
+use lib.Dec.{eqb}
 use Rattle.std.proofs.shelf.Ways.{tells}
-use Rattle.lines.specs.Read.{is-digit, digit-may, blank-may}
+use Rattle.lines.specs.Read.{digit-may, blank-may}
 use Rattle.lines.proofs.Steps.{count-digit-may, count-blank-may, sign-may}
 
+-- one place up
 pub place-up : (v k : ℕ) → v / 10 ^ suc k ≡ v / 10 ^ k / 10
 place-up v k = ap (λ m. v / m) (pow-suc 10 k) ∙ sym (div-div-eq-div-mul v (10 ^ k) 10)
 
+-- a power of ten is not 0
 pub ten-pos : (k : ℕ) → 0 < 10 ^ k
 ten-pos zero = omega arith
 ten-pos (suc k) = let h = ten-pos k in let e = pow-suc 10 k in omega arith
@@ -27,12 +29,15 @@ some-place k value = mul-div-left value (ten-pos k)
 abbrev pub place : ℕ → ℕ → ℕ
 place k q = cond (eqb q 0 && not (eqb k 0)) 32 (48 + q % 10)
 
+-- a digit gives the value one place on
 pub digit-tells : (k value b q : ℕ) → digit-may k value b ≡ true → ((q / 10 ≡ value) × (place k q ≡ b)) ↔ (q ≡ value * 10 + (b - 48))
 digit-tells k value b q d = (λ h. grind (arith, tells), λ h. grind (arith, tells))
 
+-- a blank leaves the value as it is
 pub blank-tells : (k value b q : ℕ) → blank-may k value b ≡ true → ((q / 10 ≡ value) × (place k q ≡ b)) ↔ (q ≡ value)
 blank-tells k value b q d = (λ h. grind (arith, tells), λ h. grind (arith, tells))
 
+-- no number has any other byte there
 pub none-tells : (k value b q : ℕ) → digit-may k value b ≡ false → blank-may k value b ≡ false → q / 10 ≡ value → place k q ≡ b → ⊥
 none-tells k value b q d n e h = grind (arith, tells)
 
@@ -40,6 +45,7 @@ none-tells k value b q d n e h = grind (arith, tells)
 abbrev pub Next : ℕ → ℕ → ℕ → Type 0
 Next k q q′ = ((k ≡ 0) × (1 ≤ q) × (q′ ≡ q)) ⊎ ((1 ≤ k) × (q′ / 10 ≡ q))
 
+-- so it is of any number below zero
 pub next : (n k : ℕ) → Next k (suc n / 10 ^ k) (suc n / 10 ^ pred k)
 next n zero = let e = div-one (suc n) in inl (refl, omega arith, refl)
 next n (suc k) = inr (omega arith, sym (place-up (suc n) k))
@@ -63,18 +69,21 @@ module _ (k : ℕ) (neg : Bool) (value b : ℕ) where
   abbrev Below : Bool → ℕ → ℕ → ℕ → Type 0
   Below s more q q′ = (q ≡ more) × (s ≡ not (eqb q′ 0))
 
+  -- a digit
   pub count-digit-above : count-digit-may k neg value b ≡ true → (q : ℕ) → Was-above q ↔ Above neg (value * 10 + (b - 48)) q
   count-digit-above d q = (λ h. grind (arith, tells), λ h. grind (arith, tells))
 
   pub count-digit-below : count-digit-may k neg value b ≡ true → (q q′ : ℕ) → Next k q q′ → Was-below q q′ ↔ Below neg (value * 10 + (b - 48)) q q′
   count-digit-below d q q′ n = (λ h. grind (arith, tells), λ h. grind (arith, tells))
 
+  -- a blank
   pub count-blank-above : count-blank-may k neg value b ≡ true → (q : ℕ) → Was-above q ↔ Above false value q
   count-blank-above d q = (λ h. grind (arith, tells), λ h. grind (arith, tells))
 
   pub count-blank-below : count-blank-may k neg value b ≡ true → (q q′ : ℕ) → Next k q q′ → Was-below q q′ ↔ Below false value q q′
   count-blank-below d q q′ n = (λ h. grind (arith, tells), λ h. grind (arith, tells))
 
+  -- the minus sign
   pub sign-above : sign-may k neg value b ≡ true → (q : ℕ) → Was-above q ↔ Above true value q
   sign-above d q = (λ h. grind (arith, tells), λ h. grind (arith, tells))
 
@@ -82,6 +91,7 @@ module _ (k : ℕ) (neg : Bool) (value b : ℕ) where
   sign-below d q q′ n = (λ h. grind (arith, tells), λ h. grind (arith, tells))
 
   module _ (d : count-digit-may k neg value b ≡ false) (n : count-blank-may k neg value b ≡ false) (s : sign-may k neg value b ≡ false) where
+    -- no row count has any other byte there
     pub none-above : (q : ℕ) → Was-above q → ⊥
     none-above q h = grind (arith, tells)
 

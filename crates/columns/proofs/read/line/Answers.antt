@@ -20,5 +20,5 @@ inside text at b e ten =
 pub returns-then-byte-eq10 : need.returns-then-byte-eq10
 returns-then-byte-eq10 c = record {
   answer = search needs;
-  within = inside (c .args .text .now) (c .args .at) (c .if-byte-eq10 .byte .result) (c .if-byte-eq10 .byte .ensures) (c .if-byte-eq10 .taken);
+  within = inside (c .args .text .now) (c .args .at) (c .byte .result) (c .byte .ensures) (c .if-byte-eq10 .taken);
 }

@@ -1,0 +1,85 @@
+use mathlib.Core.Path.{_≡_, refl, sym, ap, _∙_}
+use Prim.Native.Nat.{_+_}
+use Rattle.std.proofs.shelf.Results.{err-from-errBy}
+use Rattle.theory.specs.declared.step.Step.the-variants.{Edge}
+use Rattle.construction.specs.Replay.{Played, steps-from, replayed, close-from}
+use Rattle.construction.specs.Inner.{flagged, under-way}
+use Rattle.construction.proofs.Plays.{start-off, entered, entered-going, all-down, step-on, step-off, still-going, ends}
+use Rattle.construction.proofs.replay.replay.Needs as need
+
+pub start-requires : need.start-requires
+start-requires g c κs = λ k. all-down 64 k
+
+pub returns-in-Break-start : need.returns-in-Break-start
+returns-in-Break-start g c =
+    let m = g .G·ReadableGraph .meaning in
+    let n = g .G·EditableGraph .limit in
+    let p = err-from-errBy (c .from-residual .result) (c .from-residual .ensures .1) in
+    let both = start-off (n (c .args .graph .now)) (m (c .args .graph .now)) (c .args .triangle) (c .args .steps .now)
+    (under-way (m (c .start .last .graph)) (c .start .last .used)) _ (c .start .result) (c .in-Break-start .field-0 .0) (p .0) (c .from-residual .result)
+    (c .start .ensures .answer) (c .start .ensures .meant) refl (c .in-Break-start .was tt) (p .1) (p .2) in
+    record { answer = both .0; meant = both .1; same = c .start .ensures .same }
+
+pub loop-i-holds : need.loop-i-holds
+loop-i-holds g c =
+    let m = g .G·ReadableGraph .meaning in
+    let n = g .G·EditableGraph .limit in (
+      refl,
+      refl,
+      entered-going (n (c .args .graph .now)) (m (c .args .graph .now)) (c .args .triangle) (c .args .steps .now)
+          (under-way (m (c .start .last .graph)) (c .start .last .used)) _ (c .start .result) (g .G·ReadableGraph .simple (c .args .graph .now))
+          (c .start .ensures .answer) (c .start .ensures .meant) (c .in-Continue-start .was tt),
+    )
+
+pub take-step-requires : need.take-step-requires
+take-step-requires g c κs = c .loop-i .inv .2 .within
+
+pub loop-i-again : need.loop-i-again
+loop-i-again g c =
+    let m = g .G·ReadableGraph .meaning in
+    let n = g .G·EditableGraph .limit in
+    let did = c .take-step .ensures in (
+      did .same ∙ c .loop-i .inv .0,
+      step-on (steps-from (n (c .start .last .graph)) 1 (under-way (m (c .start .last .graph)) (c .start .last .used)) (c .args .steps .now))
+          (n (c .start .last .graph)) (n (c .loop-i .graph)) (under-way (m (c .loop-i .graph)) (c .loop-i .used)) (under-way (m (c .take-step .last .graph)) (c .take-step .last .used))
+          (c .args .steps .now) (c .loop-i .i) (Edge 0 0) (c .take-step .result) (c .loop-i-test .taken) (c .loop-i .inv .0) (c .loop-i .inv .1) (did .answer) (did .meant)
+          (c .in-Continue-take-step .was tt),
+      still-going (steps-from (n (c .start .last .graph)) 1 (under-way (m (c .start .last .graph)) (c .start .last .used)) (c .args .steps .now))
+          (n (c .start .last .graph)) (n (c .loop-i .graph)) (under-way (m (c .loop-i .graph)) (c .loop-i .used)) (under-way (m (c .take-step .last .graph)) (c .take-step .last .used))
+          (c .args .steps .now) (c .loop-i .i) (Edge 0 0) (c .take-step .result) (c .loop-i-test .taken) (c .loop-i .inv .0) (c .loop-i .inv .1) (did .answer) (did .meant)
+          (c .loop-i .inv .2) (c .in-Continue-take-step .was tt),
+    )
+
+pub returns-in-Break-take-step : need.returns-in-Break-take-step
+returns-in-Break-take-step g c =
+    let m = g .G·ReadableGraph .meaning in
+    let n = g .G·EditableGraph .limit in
+    let did = c .take-step .ensures in
+    let p = err-from-errBy (c .from-residual-in-Break-take-step .result) (c .from-residual-in-Break-take-step .ensures .1) in
+    let both = step-off (steps-from (n (c .start .last .graph)) 1 (under-way (m (c .start .last .graph)) (c .start .last .used)) (c .args .steps .now))
+    (n (c .start .last .graph)) (n (c .loop-i .graph)) (under-way (m (c .loop-i .graph)) (c .loop-i .used)) (under-way (m (c .take-step .last .graph)) (c .take-step .last .used))
+    (c .args .steps .now) (c .loop-i .i) (Edge 0 0) (c .take-step .result) (c .loop-i-test .taken) (c .loop-i .inv .0) (c .loop-i .inv .1) (did .answer) (did .meant)
+    (c .in-Break-take-step .field-0 .0) (p .0) (c .from-residual-in-Break-take-step .result) (c .in-Break-take-step .was tt) (p .1) (p .2) in
+    let e = entered (n (c .args .graph .now)) (m (c .args .graph .now)) (c .args .triangle) (c .args .steps .now)
+    (under-way (m (c .start .last .graph)) (c .start .last .used)) _ (n (c .start .last .graph)) (c .start .result)
+    (c .start .ensures .answer) (c .start .ensures .meant) (c .start .ensures .same) (c .in-Continue-start .was tt) in
+    record {
+      answer = both .0 ∙ sym (ap (λ (p : Played). p .told) e);
+      meant = both .1 ∙ sym (ap (λ (p : Played). p .graph) e);
+      same = did .same ∙ c .loop-i .inv .0 ∙ c .start .ensures .same;
+    }
+
+pub returns : need.returns
+returns g c =
+    let m = g .G·ReadableGraph .meaning in
+    let n = g .G·EditableGraph .limit in
+    let e = entered (n (c .args .graph .now)) (m (c .args .graph .now)) (c .args .triangle) (c .args .steps .now)
+    (under-way (m (c .start .last .graph)) (c .start .last .used)) _ (n (c .start .last .graph)) (c .start .result)
+    (c .start .ensures .answer) (c .start .ensures .meant) (c .start .ensures .same) (c .in-Continue-start .was tt) in
+    let f = e ∙ c .loop-i .inv .1
+    ∙ ends (n (c .start .last .graph)) (c .loop-i .i + 1) (under-way (m (c .loop-i .graph)) (c .loop-i .used)) (c .args .steps .now) (c .loop-i .i) (c .loop-i-test .left) in
+    record {
+      answer = c .close .ensures ∙ ap (λ k. close-from 0 k (flagged (c .loop-i .used))) (c .tables .ensures) ∙ sym (ap (λ (p : Played). p .told) f);
+      meant = sym (ap (λ (p : Played). p .graph) f);
+      same = c .loop-i .inv .0 ∙ c .start .ensures .same;
+    }
