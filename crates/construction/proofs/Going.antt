@@ -8,11 +8,11 @@ use Prim.Native.Nat.{ℕ, _+_, _≤_, _<_}
 use native.Mathlib.Omega.{arith}
 use lib.Dec.{eqb, ltb, leb}
 use Rattle.std.proofs.shelf.Ways.{tells}
-use Rattle.std.proofs.shelf.Tests.{or-cases, or-left, or-right, and-parts, eqb-true, eq-eqb, not-false, ltb-true, eqb-false, leb-false, both-ways}
+use Rattle.std.proofs.shelf.Tests.{or-cases, or-left, or-right, and-parts, eqb-true, eq-eqb, not-false, ltb-true, eqb-false, leb-false, lt-ltb, ne-eqb, lt-leb, both-ways}
 use Rattle.std.specs.declared.result.Result.{Result}
 use Rattle.std.specs.declared.result.Result.the-variants.{Ok, Err}
 use Rattle.theory.specs.Graph.{Graph, Simple, same-pair, joined, joining, unjoining, is-table, size}
-use Rattle.theory.specs.Build.{triangle, with-table}
+use Rattle.theory.specs.Build.{Part, Allowed, after, triangle, with-table}
 use Rattle.theory.specs.declared.step.Step.{Step}
 use Rattle.theory.specs.declared.step.Step.the-variants.{Edge, Node}
 use Rattle.theory.specs.declared.step.Triangle.{Triangle}
@@ -80,18 +80,22 @@ started-going m c t s h = record {
 
 -- ---- what an accepted step has met
 
-pub record Edge-fits (c : ℕ) (m : Graph) (U : ℕ → Bool) (v w : ℕ) : Type 0 where
+pub record Edge-fits (m : Graph) (U : ℕ → Bool) (v w : ℕ) : Type 0 where
   pub hv : v < m .tables
   pub hw : w < m .tables
   pub vw : v ≡ w → ⊥
   pub placed-v : U v ≡ true
   pub placed-w : U w ≡ true
   pub free : m .adj v w ≡ false
-  pub room : size m < c
 
-pub edge-fits : (c k : ℕ) (m : Graph) (U : ℕ → Bool) (v w : ℕ) → step-answer c k (building m U) (Edge v w) ≡ Ok tt → Edge-fits c m U v w
+-- all but room for one join more
+abbrev pub Fits : Building → Step → Type 0
+Fits b (Edge v w) = Edge-fits (b .graph) (b .used) v w
+Fits b (Node u v w) = Spliceable (b .graph) (b .used) u v w
+
+edge-met : (c k : ℕ) (m : Graph) (U : ℕ → Bool) (v w : ℕ) → step-answer c k (building m U) (Edge v w) ≡ Ok tt → Edge-fits m U v w × (size m < c)
 unfolding step-answer
-edge-fits c k m U v w h =
+edge-met c k m U v w h =
     let e₁ = past (not (is-table m v)) (Store k (UnknownTable v)) _ h in
     let e₂ = past (not (is-table m w)) (Store k (UnknownTable w)) _ (e₁ .1) in
     let e₃ = past (eqb v w) (Store k (SameTable v)) _ (e₂ .1) in
@@ -99,57 +103,68 @@ edge-fits c k m U v w h =
     let e₅ = past (not (U w)) (NotInUse k w) _ (e₄ .1) in
     let e₆ = past (joined m v w) (Store k (AlreadyJoined v w)) _ (e₅ .1) in
     let e₇ = past (leb c (size m)) (Store k (Full c)) _ (e₆ .1) in
-    record {
+    (record {
       hv = ltb-true v (m .tables) (not-false (is-table m v) (e₁ .0));
       hw = ltb-true w (m .tables) (not-false (is-table m w) (e₂ .0));
       vw = eqb-false v w (e₃ .0);
       placed-v = not-false (U v) (e₄ .0);
       placed-w = not-false (U w) (e₅ .0);
       free = e₆ .0;
-      room = leb-false c (size m) (e₇ .0);
-    }
+    }, leb-false c (size m) (e₇ .0))
 
-pub node-fits : (c k : ℕ) (m : Graph) (U : ℕ → Bool) (u v w : ℕ) → step-answer c k (building m U) (Node u v w) ≡ Ok tt → Spliceable m U u v w × (size m < c)
+node-met : (c k : ℕ) (m : Graph) (U : ℕ → Bool) (u v w : ℕ) → step-answer c k (building m U) (Node u v w) ≡ Ok tt → Spliceable m U u v w × (size m < c)
 unfolding step-answer
-node-fits c k m U u v w h =
+node-met c k m U u v w h =
     let both = front-ok (node-conditions m U k u v w) ((leb c (size m), Store k (Full c)) ∷ []) h in
     (spliceable m U k u v w (both .0), leb-false c (size m) (past (leb c (size m)) (Store k (Full c)) (Ok tt) (both .1) .0))
 
+pub answer-fits : (c k : ℕ) (b : Building) (s : Step) → step-answer c k b s ≡ Ok tt → Fits b s × (size (b .graph) < c)
+answer-fits c k b (Edge v w) e = edge-met c k (b .graph) (b .used) v w e
+answer-fits c k b (Node u v w) e = node-met c k (b .graph) (b .used) u v w e
+
+-- and back
+pub fits-answer : (c k : ℕ) (b : Building) (s : Step) → Fits b s → size (b .graph) < c → step-answer c k b s ≡ Ok tt
+unfolding step-answer
+fits-answer c k b (Edge v w) f room =
+    rw (lt-ltb v (b .graph .tables) (f .hv), lt-ltb w (b .graph .tables) (f .hw), ne-eqb v w (f .vw), f .placed-v, f .placed-w, f .free, lt-leb c (size (b .graph)) room)
+fits-answer c k b (Node u v w) f room =
+    rw (lt-ltb u (b .graph .tables) (f .hu), lt-ltb v (b .graph .tables) (f .hv), lt-ltb w (b .graph .tables) (f .hw), ne-eqb u v (f .uv), ne-eqb u w (f .uw), ne-eqb v w (f .vw),
+      f .fresh, f .placed-v, f .placed-w, f .held, lt-leb c (size (b .graph)) room)
+
 -- ---- one step on
 
-edge-going : (m : Graph) (U : ℕ → Bool) (c v w : ℕ) → Going (building m U) → Edge-fits c m U v w → Going (building (joining m v w) U)
-edge-going m U c v w h f = record {
+edge-going : (m : Graph) (U : ℕ → Bool) (v w : ℕ) → Going (building m U) → Edge-fits m U v w → Going (building (joining m v w) U)
+edge-going m U v w h f = record {
   simple = joining-simple m v w (f .hv) (f .hw) (f .vw) (h .simple);
   tables = h .tables;
   within = λ x y e.
       ⊎-elim (λ p. ⊎-elim (λ (q : v ≡ x). ap U (sym q) ∙ f .placed-v) (λ (q : w ≡ x). ap U (sym q) ∙ f .placed-w) (pair-ends v w x y p))
-      (λ j. h .within x y j) (or-cases (same-pair v w x y) (m .adj x y) e);
+        (λ j. h .within x y j) (or-cases (same-pair v w x y) (m .adj x y) e);
 }
 
 node-going : (m : Graph) (U : ℕ → Bool) (u v w : ℕ) → Going (building m U) → Spliceable m U u v w
     → Going (building (joining (unjoining (joining m u v) v w) u w) (with-table u U))
 node-going m U u v w h f = record {
   simple = joining-simple (unjoining (joining m u v) v w) u w (f .hu) (f .hw) (f .uw)
-      (unjoining-simple (joining m u v) v w (joining-simple m u v (f .hu) (f .hv) (f .uv) (h .simple)));
+        (unjoining-simple (joining m u v) v w (joining-simple m u v (f .hu) (f .hv) (f .uv) (h .simple)));
   tables = λ x e. ⊎-elim (λ p. let q : u ≡ x = eqb-true u x p in let l : u < m .tables = f .hu in omega arith) (λ o. h .tables x o) (or-cases (eqb u x) (U x) e);
   within = λ x y e.
       ⊎-elim (λ p. ⊎-elim (new x) (λ (q : w ≡ x). old x (ap U (sym q) ∙ f .placed-w)) (pair-ends u w x y p))
-      (λ r. ⊎-elim (λ p. ⊎-elim (new x) (λ (q : v ≡ x). old x (ap U (sym q) ∙ f .placed-v)) (pair-ends u v x y p))
-      (λ j. old x (h .within x y j))
-      (or-cases (same-pair u v x y) (m .adj x y) (and-parts (not (same-pair v w x y)) (same-pair u v x y || m .adj x y) r .1)))
-      (or-cases (same-pair u w x y) (not (same-pair v w x y) && (same-pair u v x y || m .adj x y)) e);
+        (λ r. ⊎-elim (λ p. ⊎-elim (new x) (λ (q : v ≡ x). old x (ap U (sym q) ∙ f .placed-v)) (pair-ends u v x y p))
+          (λ j. old x (h .within x y j))
+          (or-cases (same-pair u v x y) (m .adj x y) (and-parts (not (same-pair v w x y)) (same-pair u v x y || m .adj x y) r .1)))
+        (or-cases (same-pair u w x y) (not (same-pair v w x y) && (same-pair u v x y || m .adj x y)) e);
 }
   where
     new : (x : ℕ) → u ≡ x → with-table u U x ≡ true
     new x q = or-left (eqb u x) (U x) (eq-eqb u x q)
-
     old : (x : ℕ) → U x ≡ true → with-table u U x ≡ true
     old x o = or-right (eqb u x) (U x) o
 
-pub step-going : (c k : ℕ) (b : Building) (s : Step) → Going b → step-answer c k b s ≡ Ok tt → Going (step-after b s)
+pub step-going : (b : Building) (s : Step) → Going b → Fits b s → Going (step-after b s)
 unfolding step-after
-step-going c k b (Edge v w) h e = edge-going (b .graph) (b .used) c v w h (edge-fits c k (b .graph) (b .used) v w e)
-step-going c k b (Node u v w) h e = node-going (b .graph) (b .used) u v w h (node-fits c k (b .graph) (b .used) u v w e .0)
+step-going b (Edge v w) h f = edge-going (b .graph) (b .used) v w h f
+step-going b (Node u v w) h f = node-going (b .graph) (b .used) u v w h f
 
 node-size : (m : Graph) (U : ℕ → Bool) (u v w : ℕ) → Going (building m U) → Spliceable m U u v w → size (joining (unjoining (joining m u v) v w) u w) ≡ size m + 1
 node-size m U u v w h f =
@@ -160,12 +175,52 @@ node-size m U u v w h f =
     let less : size (joining m u v) ≡ size (unjoining (joining m u v) v w) + 1 = unjoining-size (joining m u v) v w (f .hv) (f .hw) (f .vw) s₁ held₁ in
     let free : unjoining (joining m u v) v w .adj u w ≡ false = third-free m u v w (f .uv) (f .uw) (f .vw) (alone w) in
     let last : size (joining (unjoining (joining m u v) v w) u w) ≡ size (unjoining (joining m u v) v w) + 1
-    = joining-size (unjoining (joining m u v) v w) u w (f .hu) (f .hw) (f .uw) (unjoining-simple (joining m u v) v w s₁) free in
+          = joining-size (unjoining (joining m u v) v w) u w (f .hu) (f .hw) (f .uw) (unjoining-simple (joining m u v) v w s₁) free in
     omega arith
 
-pub step-size : (c k : ℕ) (b : Building) (s : Step) → Going b → step-answer c k b s ≡ Ok tt → size (step-after b s .graph) ≡ size (b .graph) + 1
+pub step-size : (b : Building) (s : Step) → Going b → Fits b s → size (step-after b s .graph) ≡ size (b .graph) + 1
 unfolding step-after
-step-size c k b (Edge v w) h e =
-    let f = edge-fits c k (b .graph) (b .used) v w e in
-    joining-size (b .graph) v w (f .hv) (f .hw) (f .vw) (h .simple) (f .free)
-step-size c k b (Node u v w) h e = node-size (b .graph) (b .used) u v w h (node-fits c k (b .graph) (b .used) u v w e .0)
+step-size b (Edge v w) h f = joining-size (b .graph) v w (f .hv) (f .hw) (f .vw) (h .simple) (f .free)
+step-size b (Node u v w) h f = node-size (b .graph) (b .used) u v w h f
+
+pub step-tables : (b : Building) (s : Step) → step-after b s .graph .tables ≡ b .graph .tables
+unfolding step-after
+step-tables b (Edge v w) = refl
+step-tables b (Node u v w) = refl
+
+-- ---- in the words of legal builds
+
+abbrev pub part-of : Building → Part
+part-of b = record { in-use = b .used; joins = b .graph .adj }
+
+pub part-after : (b : Building) (s : Step) → after s (part-of b) ≡ part-of (step-after b s)
+unfolding step-after
+part-after b (Edge v w) = refl
+part-after b (Node u v w) = refl
+
+pub fits-allowed : (b : Building) (s : Step) → Fits b s → Allowed s (part-of b)
+fits-allowed b (Edge v w) f = (f .placed-v, f .placed-w, f .vw, f .free)
+fits-allowed b (Node u v w) f = (f .fresh, f .placed-v, f .placed-w, f .vw, f .held)
+
+-- a step that is allowed and brings no number into use but a table's
+pub allowed-fits : (b : Building) (s : Step) → Going b → Allowed s (part-of b) → ((x : ℕ) → after s (part-of b) .in-use x ≡ true → x < b .graph .tables) → Fits b s
+allowed-fits b (Edge v w) h a new = record {
+  hv = h .tables v (a .0);
+  hw = h .tables w (a .1);
+  vw = a .2;
+  placed-v = a .0;
+  placed-w = a .1;
+  free = a .3;
+}
+allowed-fits b (Node u v w) h a new = record {
+  hu = new u (or-left (eqb u u) (b .used u) (eq-eqb u u refl));
+  hv = h .tables v (a .1);
+  hw = h .tables w (a .2);
+  uv = λ e. both-ways (b .used u) (a .0) (ap (b .used) e ∙ a .1);
+  uw = λ e. both-ways (b .used u) (a .0) (ap (b .used) e ∙ a .2);
+  vw = a .3;
+  fresh = a .0;
+  placed-v = a .1;
+  placed-w = a .2;
+  held = a .4;
+}

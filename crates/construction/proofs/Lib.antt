@@ -3,3 +3,4 @@ pub mod Joins
 pub mod Inner
 pub mod Going
 pub mod Plays
+pub mod Laws

@@ -14,7 +14,7 @@ use Rattle.construction.specs.Replay.{Building, Played, start-answer, started,
 use Rattle.construction.specs.Inner.{flagged, left}
 use Rattle.construction.specs.declared.fault.ReplayFault.{ReplayFault}
 use Rattle.construction.proofs.Inner.{startable}
-use Rattle.construction.proofs.Going.{Going, started-going, step-going}
+use Rattle.construction.proofs.Going.{Going, started-going, answer-fits, step-going}
 
 -- ---- the start
 
@@ -85,7 +85,7 @@ module _ (whole : Played) (c c′ : ℕ) (b b′ : Building) (l : List Step) (i 
 
   pub still-going : Going b → r ≡ Ok tt → Going b′
   still-going h ok =
-      subst (λ x. Going x) (sym (meant ∙ ap (λ z. left z (step-after b (getD l i d)) b) ok)) (step-going c (i + 1) b (getD l i d) h (told-by ∙ ok))
+      subst (λ x. Going x) (sym (meant ∙ ap (λ z. left z (step-after b (getD l i d)) b) ok)) (step-going b (getD l i d) h (answer-fits c (i + 1) b (getD l i d) (told-by ∙ ok) .0))
 
   pub step-off : (a y : ReplayFault) (final : Result Unit ReplayFault) → r ≡ Err a → final ≡ Err y → y ≡ a → (final ≡ whole .told) × (b′ .graph ≡ whole .graph)
   step-off a y final broke gave by =

@@ -7,6 +7,7 @@ ghost use Rattle.std.specs.declared.result.Result.the-variants.{Ok, Err};
 ghost use Rattle.theory.specs.Graph.{joined as joins, table-count, some-join};
 ghost use Rattle.theory.specs.declared.step.Step.the-variants.{Edge, Node};
 ghost use Rattle.construction.specs.Replay.{start-answer, started, step-answer, step-after, close-from, replayed};
+ghost use Rattle.construction.specs.Law.{Accepted-exactly, Accepted-with-room, Refused-at-first};
 ghost use Rattle.construction.specs.Inner.{flagged, under-way, left, Within-use, used-answer, edge-used, named-answer, node-judged, full-answer, spliced};
 use super::fault::AtStep;
 use super::fault::ReplayFault;
@@ -251,6 +252,9 @@ pub fn replay<G: EditableGraph>(
     ensures answer { λ r. ⌜ r ≡ replayed (limit (now (graph .entry))) (G·ReadableGraph .meaning (now (graph .entry))) triangle (now (steps .entry)) .told ⌝ }
     ensures meant { λ _. ⌜ G·ReadableGraph .meaning (now (graph .exit)) ≡ replayed (limit (now (graph .entry))) (G·ReadableGraph .meaning (now (graph .entry))) triangle (now (steps .entry)) .graph ⌝ }
     ensures same { λ _. ⌜ limit (now (graph .exit)) ≡ limit (now (graph .entry)) ⌝ }
+    ensures accepted { λ r. ⌜ Accepted-exactly (G·ReadableGraph .meaning (now (graph .entry))) triangle (now (steps .entry)) r (G·ReadableGraph .meaning (now (graph .exit))) ⌝ }
+    ensures room { λ r. ⌜ Accepted-with-room (limit (now (graph .entry))) (G·ReadableGraph .meaning (now (graph .entry))) triangle (now (steps .entry)) r ⌝ }
+    ensures refused { λ r. ⌜ Refused-at-first (limit (now (graph .entry))) (G·ReadableGraph .meaning (now (graph .entry))) triangle (now (steps .entry)) r (G·ReadableGraph .meaning (now (graph .exit))) ⌝ }
 {
     let mut used = [false; 64];
     start(graph, &mut used, triangle)?;

@@ -1,0 +1,2 @@
+pub mod Graph-text
+pub mod Refusal
