@@ -1,7 +1,8 @@
 pub mod Refusals
 pub mod Steps
 pub mod Laying
+pub mod Writing
+pub mod Stands
 pub mod Lists
 pub mod Told
-pub mod Writing
 pub mod Back

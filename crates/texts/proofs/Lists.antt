@@ -1,5 +1,6 @@
 -- A list that is accepted stands in the text as it would be written.
 --
+--   refused, when-so, unless-so       a refusal is no answer; what follows where a judgement with one is an answer
 --   step-stands, triangle-stands, head-stands   a line that is accepted as such stands there; an H line's numbers are within their limits
 --   Steps-stand text at k i l after   k step lines stand from `at` on, and `after` is the records l with their steps put in from the i-th on
 --   steps-stand                       so it is where the steps are accepted
@@ -85,11 +86,11 @@ triangle-so at c (FirstTwo a b) t q = refused _ t q
 triangle-so at c (Counted u z) t q = refused _ t q
 triangle-so at c (Single o) t q = refused _ t q
 
-pub record Limits (room : ℕ) (h : Head) : Type 0 where
-  pub least : 3 ≤ h .tables
-  pub most : h .tables ≤ 64
-  pub few : h .steps + 3 ≤ 2016
-  pub roomy : h .steps ≤ room
+record Limits (room : ℕ) (h : Head) : Type 0 where
+  least : 3 ≤ h .tables
+  most : h .tables ≤ 64
+  few : h .steps + 3 ≤ 2016
+  roomy : h .steps ≤ room
 
 within : (n m k : ℕ) → outside-limits n m k ≡ false → (3 ≤ n) × (n ≤ 64) × (m ≡ k + 3) × (k + 3 ≤ 2016)
 within n m k q = grind (arith, tells)

@@ -3,12 +3,11 @@
 --   Stands text at l      the line l can be written, and its text stands from `at` on, within the text
 --   line-stands           a line that is read stands there
 --   agrees-part           a text that agrees throughout is the part it agrees with
---   steps-length          the bytes of the lines of steps
 --   list-text-length      the bytes of a list's text
 --   list-agrees           a list's text agrees where its H line, its T line and its step lines do
 --   list-front, list-mid, list-back   and only there
 use mathlib.Core.Path.{_≡_, refl, sym, ap, subst, _∙_}
-use mathlib.Core.List.{List, [], _∷_, _++_}
+use mathlib.Core.List.{List, _++_}
 use Prim.Native.Nat.{ℕ, _+_, _*_, _≤_}
 use native.Mathlib.Omega.{arith}
 use lib.ListN.{length, take, drop, length-append, length-drop}
@@ -26,6 +25,7 @@ use Rattle.theory.specs.declared.step.Step.{Step}
 use Rattle.theory.specs.declared.step.Triangle.{Triangle}
 use Rattle.texts.specs.List-text.{head-line, triangle-line, step-line, step-text, list-text}
 use Rattle.texts.specs.List-write.{list-length}
+use Rattle.texts.proofs.Writing.{joined-length}
 
 pub record Stands (text : List ℕ) (at : ℕ) (l : Line) : Type 0 where
   pub written : Written l
@@ -43,13 +43,6 @@ agrees-part t text at k long h a =
     ext-getD 0 (take k (drop at text)) t (m ∙ sym long)
     (λ i b. getD-take k (drop at text) i 0 (omega arith) ∙ getD-drop at text i 0 ∙ sym (a i (omega arith)))
 
-pub steps-length : (l : List Step) → length (joined step-text l) ≡ 17 * length l
-steps-length [] = refl
-steps-length (s ∷ l) =
-    let one = line-length (step-line s) in
-    let rest = steps-length l in
-    length-append (step-text s) (joined step-text l) ∙ omega arith
-
 module _ (n : ℕ) (t : Triangle) (l : List Step) where
   abbrev head : List ℕ
   head = line-text (head-line n (length l))
@@ -64,7 +57,7 @@ module _ (n : ℕ) (t : Triangle) (l : List Step) where
   list-text-length =
       let one = line-length (head-line n (length l)) in
       let two = line-length (triangle-line t) in
-      let rest = steps-length l in
+      let rest : length steps ≡ 17 * length l = joined-length step-line l in
       length-append head (triangle ++ steps) ∙ ap (λ k. length head + k) (length-append triangle steps) ∙ omega arith
 
   module _ (text : List ℕ) (at : ℕ) where

@@ -1,0 +1,4 @@
+//! The programs, each as one function from the bytes read to the bytes printed.
+pub mod fault;
+pub mod replay;
+pub mod workspace;
