@@ -2,9 +2,9 @@
 ghost use mathlib.Core.Path.{_≡_};
 ghost use Prim.Native.Nat.{ℕ, _+_, _-_, _*_, _<_, _≤_};
 ghost use lib.ListN.{length};
-ghost use Rattle.std.specs.Vec.{made};
+ghost use Rattle.std.specs.Vec.{made, refused};
 ghost use Rattle.lines.specs.Read.{line-at};
-ghost use Rattle.texts.specs.Fault.{in-form};
+ghost use Rattle.texts.specs.Fault.{in-form, text-value};
 ghost use Rattle.texts.specs.List-read.{head-at, triangle-at, step-at, steps-read, list-read, end-at};
 ghost use Rattle.texts.specs.List-law.{Same-text};
 use columns::read::read_line;
@@ -36,6 +36,7 @@ pub struct Heading {
 fn form_line(text: &[u8], at: usize) -> Result<Line, TextFault>
     ensures answer { λ r. ⌜ r ≡ in-form (line-at (now (text .entry)) at) ⌝ }
     ensures within { λ r. ⌜ made r (λ _. at + 17 ≤ length (now (text .entry))) ⌝ }
+    ensures near { λ r. ⌜ refused r (λ f. text-value f ≤ at + 16) ⌝ }
 {
     match read_line(text, at) {
         Ok(line) => Ok(line),
@@ -47,6 +48,7 @@ fn form_line(text: &[u8], at: usize) -> Result<Line, TextFault>
 fn head_line(text: &[u8], at: usize, room: usize) -> Result<Head, TextFault>
     ensures answer { λ r. ⌜ r ≡ head-at (now (text .entry)) at room ⌝ }
     ensures within { λ r. ⌜ made r (λ h. (at + 17 ≤ length (now (text .entry))) × (h .steps ≤ 2013) × (h .steps ≤ room)) ⌝ }
+    ensures near { λ r. ⌜ refused r (λ f. text-value f ≤ at + 2013) ⌝ }
 {
     let line = form_line(text, at)?;
     match (line.letter, line.fields) {
@@ -68,6 +70,7 @@ fn head_line(text: &[u8], at: usize, room: usize) -> Result<Head, TextFault>
 fn triangle_line(text: &[u8], at: usize) -> Result<Triangle, TextFault>
     ensures answer { λ r. ⌜ r ≡ triangle-at (now (text .entry)) at ⌝ }
     ensures within { λ r. ⌜ made r (λ _. at + 17 ≤ length (now (text .entry))) ⌝ }
+    ensures near { λ r. ⌜ refused r (λ f. text-value f ≤ at + 16) ⌝ }
 {
     let line = form_line(text, at)?;
     match (line.letter, line.fields) {
@@ -80,6 +83,7 @@ fn triangle_line(text: &[u8], at: usize) -> Result<Triangle, TextFault>
 fn step_line(text: &[u8], at: usize) -> Result<Step, TextFault>
     ensures answer { λ r. ⌜ r ≡ step-at (now (text .entry)) at ⌝ }
     ensures within { λ r. ⌜ made r (λ _. at + 17 ≤ length (now (text .entry))) ⌝ }
+    ensures near { λ r. ⌜ refused r (λ f. text-value f ≤ at + 16) ⌝ }
 {
     let line = form_line(text, at)?;
     match (line.letter, line.fields) {
@@ -95,6 +99,7 @@ fn read_steps(text: &[u8], at: usize, count: usize, records: &mut [Step]) -> Res
     ensures answer { λ r. ⌜ r ≡ steps-read (now (text .entry)) at count 0 (now (records .entry)) .told ⌝ }
     ensures filled { λ _. ⌜ now (records .exit) ≡ steps-read (now (text .entry)) at count 0 (now (records .entry)) .records ⌝ }
     ensures within { λ r. ⌜ made r (λ _. at + 17 * count ≤ length (now (text .entry))) ⌝ }
+    ensures near { λ r. ⌜ refused r (λ f. text-value f ≤ length (now (text .entry)) + 16) ⌝ }
 {
     for i in 0..count {
         records[i] = step_line(text, at + 17 * i)?;
@@ -109,6 +114,8 @@ pub fn read_list(text: &[u8], at: usize, records: &mut [Step]) -> Result<Heading
     ensures filled { λ _. ⌜ now (records .exit) ≡ list-read (now (text .entry)) at (now (records .entry)) .records ⌝ }
     // a list that is accepted stands there as it would be written
     ensures same { λ r. ⌜ Same-text (now (text .entry)) at (now (records .entry)) (now (records .exit)) r ⌝ }
+    // no place or amount named is far beyond the text
+    ensures near { λ r. ⌜ refused r (λ f. text-value f ≤ at + length (now (text .entry)) + 2013) ⌝ }
 {
     let head = head_line(text, at, records.len())?;
     let triangle = triangle_line(text, at + 17)?;
@@ -118,7 +125,8 @@ pub fn read_list(text: &[u8], at: usize, records: &mut [Step]) -> Result<Heading
 
 /// Nothing may follow at `at`: 15 where what follows is not in form, else 16.
 pub fn check_end(text: &[u8], at: usize) -> Result<(), TextFault>
-    ensures { λ r. ⌜ r ≡ end-at (now (text .entry)) at ⌝ }
+    ensures answer { λ r. ⌜ r ≡ end-at (now (text .entry)) at ⌝ }
+    ensures near { λ r. ⌜ refused r (λ f. text-value f ≤ at + 16) ⌝ }
 {
     if at == text.len() {
         return Ok(());

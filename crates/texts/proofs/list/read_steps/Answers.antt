@@ -4,8 +4,9 @@ use native.Mathlib.Omega.{arith}
 use lib.ListN.{length}
 use Rattle.std.specs.declared.result.Result.the-variants.{Ok, Err}
 use Rattle.std.proofs.shelf.Results.{err-from-errBy}
+use Rattle.texts.specs.Fault.{text-value}
 use Rattle.texts.specs.List-read.{Steps-told, steps-read}
-use Rattle.texts.proofs.Refusals.{made-refused}
+use Rattle.texts.proofs.Refusals.{made-refused, refused-on}
 use Rattle.texts.proofs.Steps.{steps-on, steps-off, steps-end}
 use Rattle.texts.proofs.list.read_steps.Needs as need
 
@@ -29,6 +30,9 @@ returns-in-Break-records c =
       answer = p .1 ∙ ap (λ f. Err f) (p .2) ∙ sym (ap (λ (s : Steps-told). s .told) e);
       filled = sym (ap (λ (s : Steps-told). s .records) e);
       within = made-refused (c .from-residual .result) (p .0) _ (p .1);
+      near =
+          let close : text-value (c .in-Break-records .field-0 .0) ≤ length text + 16 = omega (arith, c .in-Break-records .ensures tt .near, c .loop-i .inv .1) in
+          refused-on (c .from-residual .result) (p .0) (c .in-Break-records .field-0 .0) (λ f. text-value f ≤ length text + 16) (p .1) (p .2) close;
     }
 
 pub returns : need.returns
@@ -40,4 +44,5 @@ returns c =
       answer = sym (ap (λ (s : Steps-told). s .told) e);
       filled = sym (ap (λ (s : Steps-told). s .records) e);
       within = omega (arith, c .loop-i .inv .1);
+      near = tt;
     }
