@@ -18,13 +18,13 @@ use Rattle.theory.specs.declared.step.Step.the-variants.{Edge, Node}
 use Rattle.theory.specs.declared.step.Triangle.{Triangle}
 use Rattle.theory.proofs.Sizes.{joining-simple, unjoining-simple, joining-size, unjoining-size}
 use Rattle.graph.specs.First.{refused-first}
-use Rattle.graph.specs.declared.fault.StoreFault.the-variants.{UnknownTable, SameTable, AlreadyJoined, Full}
+use Rattle.graph.specs.declared.fault.StoreFault.the-variants.{UnknownTable, SameTable, AlreadyJoined, NotJoined, Full}
 use Rattle.construction.specs.Replay.{Building, started, step-answer, step-after}
-use Rattle.construction.specs.Inner.{building, Within-use, node-judged, node-conditions}
+use Rattle.construction.specs.Inner.{building, Within-use, node-conditions, splice-conditions}
 use Rattle.construction.specs.declared.fault.ReplayFault.the-variants.{Store, NotInUse}
 use Rattle.construction.proofs.First.{past, front-ok}
 use Rattle.construction.proofs.Joins.{third-free}
-use Rattle.construction.proofs.Inner.{Startable, started-simple, started-size, Spliceable, spliceable, no-neighbours}
+use Rattle.construction.proofs.Inner.{Startable, started-simple, Named, well-named, no-neighbours}
 
 pub record Going (b : Building) : Type 0 where
   pub simple : Simple (b .graph)
@@ -88,10 +88,22 @@ pub record Edge-fits (m : Graph) (U : ℕ → Bool) (v w : ℕ) : Type 0 where
   pub placed-w : U w ≡ true
   pub free : m .adj v w ≡ false
 
+pub record Node-fits (m : Graph) (U : ℕ → Bool) (u v w : ℕ) : Type 0 where
+  pub hu : u < m .tables
+  pub hv : v < m .tables
+  pub hw : w < m .tables
+  pub uv : u ≡ v → ⊥
+  pub uw : u ≡ w → ⊥
+  pub vw : v ≡ w → ⊥
+  pub fresh : U u ≡ false
+  pub placed-v : U v ≡ true
+  pub placed-w : U w ≡ true
+  pub held : m .adj v w ≡ true
+
 -- all but room for one join more
 abbrev pub Fits : Building → Step → Type 0
 Fits b (Edge v w) = Edge-fits (b .graph) (b .used) v w
-Fits b (Node u v w) = Spliceable (b .graph) (b .used) u v w
+Fits b (Node u v w) = Node-fits (b .graph) (b .used) u v w
 
 edge-met : (c k : ℕ) (m : Graph) (U : ℕ → Bool) (v w : ℕ) → step-answer c k (building m U) (Edge v w) ≡ Ok tt → Edge-fits m U v w × (size m < c)
 unfolding step-answer
@@ -102,21 +114,39 @@ edge-met c k m U v w h =
     let e₄ = past (not (U v)) (NotInUse k v) _ (e₃ .1) in
     let e₅ = past (not (U w)) (NotInUse k w) _ (e₄ .1) in
     let e₆ = past (joined m v w) (Store k (AlreadyJoined v w)) _ (e₅ .1) in
-    let e₇ = past (leb c (size m)) (Store k (Full c)) _ (e₆ .1) in
-    (record {
-      hv = ltb-true v (m .tables) (not-false (is-table m v) (e₁ .0));
-      hw = ltb-true w (m .tables) (not-false (is-table m w) (e₂ .0));
-      vw = eqb-false v w (e₃ .0);
-      placed-v = not-false (U v) (e₄ .0);
-      placed-w = not-false (U w) (e₅ .0);
-      free = e₆ .0;
-    }, leb-false c (size m) (e₇ .0))
+    let e₇ = past (leb c (size m)) (Store k (Full c)) _ (e₆ .1) in (
+      record {
+        hv = ltb-true v (m .tables) (not-false (is-table m v) (e₁ .0));
+        hw = ltb-true w (m .tables) (not-false (is-table m w) (e₂ .0));
+        vw = eqb-false v w (e₃ .0);
+        placed-v = not-false (U v) (e₄ .0);
+        placed-w = not-false (U w) (e₅ .0);
+        free = e₆ .0;
+      },
+      leb-false c (size m) (e₇ .0),
+    )
 
-node-met : (c k : ℕ) (m : Graph) (U : ℕ → Bool) (u v w : ℕ) → step-answer c k (building m U) (Node u v w) ≡ Ok tt → Spliceable m U u v w × (size m < c)
+node-met : (c k : ℕ) (m : Graph) (U : ℕ → Bool) (u v w : ℕ) → step-answer c k (building m U) (Node u v w) ≡ Ok tt → Node-fits m U u v w × (size m < c)
 unfolding step-answer
 node-met c k m U u v w h =
-    let both = front-ok (node-conditions m U k u v w) ((leb c (size m), Store k (Full c)) ∷ []) h in
-    (spliceable m U k u v w (both .0), leb-false c (size m) (past (leb c (size m)) (Store k (Full c)) (Ok tt) (both .1) .0))
+    let both = front-ok (node-conditions (m .tables) U k u v w) (splice-conditions m c k v w) h in
+    let f = well-named (m .tables) U k u v w (both .0) in
+    let e₁ = past (not (joined m v w)) (Store k (NotJoined v w)) _ (both .1) in
+    let e₂ = past (leb c (size m)) (Store k (Full c)) _ (e₁ .1) in (
+      record {
+        hu = f .hu;
+        hv = f .hv;
+        hw = f .hw;
+        uv = f .uv;
+        uw = f .uw;
+        vw = f .vw;
+        fresh = f .fresh;
+        placed-v = f .placed-v;
+        placed-w = f .placed-w;
+        held = not-false (joined m v w) (e₁ .0);
+      },
+      leb-false c (size m) (e₂ .0),
+    )
 
 pub answer-fits : (c k : ℕ) (b : Building) (s : Step) → step-answer c k b s ≡ Ok tt → Fits b s × (size (b .graph) < c)
 answer-fits c k b (Edge v w) e = edge-met c k (b .graph) (b .used) v w e
@@ -128,8 +158,19 @@ unfolding step-answer
 fits-answer c k b (Edge v w) f room =
     rw (lt-ltb v (b .graph .tables) (f .hv), lt-ltb w (b .graph .tables) (f .hw), ne-eqb v w (f .vw), f .placed-v, f .placed-w, f .free, lt-leb c (size (b .graph)) room)
 fits-answer c k b (Node u v w) f room =
-    rw (lt-ltb u (b .graph .tables) (f .hu), lt-ltb v (b .graph .tables) (f .hv), lt-ltb w (b .graph .tables) (f .hw), ne-eqb u v (f .uv), ne-eqb u w (f .uw), ne-eqb v w (f .vw),
-      f .fresh, f .placed-v, f .placed-w, f .held, lt-leb c (size (b .graph)) room)
+    rw (
+      lt-ltb u (b .graph .tables) (f .hu),
+      lt-ltb v (b .graph .tables) (f .hv),
+      lt-ltb w (b .graph .tables) (f .hw),
+      ne-eqb u v (f .uv),
+      ne-eqb u w (f .uw),
+      ne-eqb v w (f .vw),
+      f .fresh,
+      f .placed-v,
+      f .placed-w,
+      f .held,
+      lt-leb c (size (b .graph)) room,
+    )
 
 -- ---- one step on
 
@@ -139,25 +180,26 @@ edge-going m U v w h f = record {
   tables = h .tables;
   within = λ x y e.
       ⊎-elim (λ p. ⊎-elim (λ (q : v ≡ x). ap U (sym q) ∙ f .placed-v) (λ (q : w ≡ x). ap U (sym q) ∙ f .placed-w) (pair-ends v w x y p))
-        (λ j. h .within x y j) (or-cases (same-pair v w x y) (m .adj x y) e);
+      (λ j. h .within x y j) (or-cases (same-pair v w x y) (m .adj x y) e);
 }
 
-node-going : (m : Graph) (U : ℕ → Bool) (u v w : ℕ) → Going (building m U) → Spliceable m U u v w
+node-going : (m : Graph) (U : ℕ → Bool) (u v w : ℕ) → Going (building m U) → Node-fits m U u v w
     → Going (building (joining (unjoining (joining m u v) v w) u w) (with-table u U))
 node-going m U u v w h f = record {
   simple = joining-simple (unjoining (joining m u v) v w) u w (f .hu) (f .hw) (f .uw)
-        (unjoining-simple (joining m u v) v w (joining-simple m u v (f .hu) (f .hv) (f .uv) (h .simple)));
+      (unjoining-simple (joining m u v) v w (joining-simple m u v (f .hu) (f .hv) (f .uv) (h .simple)));
   tables = λ x e. ⊎-elim (λ p. let q : u ≡ x = eqb-true u x p in let l : u < m .tables = f .hu in omega arith) (λ o. h .tables x o) (or-cases (eqb u x) (U x) e);
   within = λ x y e.
       ⊎-elim (λ p. ⊎-elim (new x) (λ (q : w ≡ x). old x (ap U (sym q) ∙ f .placed-w)) (pair-ends u w x y p))
-        (λ r. ⊎-elim (λ p. ⊎-elim (new x) (λ (q : v ≡ x). old x (ap U (sym q) ∙ f .placed-v)) (pair-ends u v x y p))
-          (λ j. old x (h .within x y j))
-          (or-cases (same-pair u v x y) (m .adj x y) (and-parts (not (same-pair v w x y)) (same-pair u v x y || m .adj x y) r .1)))
-        (or-cases (same-pair u w x y) (not (same-pair v w x y) && (same-pair u v x y || m .adj x y)) e);
+      (λ r. ⊎-elim (λ p. ⊎-elim (new x) (λ (q : v ≡ x). old x (ap U (sym q) ∙ f .placed-v)) (pair-ends u v x y p))
+      (λ j. old x (h .within x y j))
+      (or-cases (same-pair u v x y) (m .adj x y) (and-parts (not (same-pair v w x y)) (same-pair u v x y || m .adj x y) r .1)))
+      (or-cases (same-pair u w x y) (not (same-pair v w x y) && (same-pair u v x y || m .adj x y)) e);
 }
   where
     new : (x : ℕ) → u ≡ x → with-table u U x ≡ true
     new x q = or-left (eqb u x) (U x) (eq-eqb u x q)
+
     old : (x : ℕ) → U x ≡ true → with-table u U x ≡ true
     old x o = or-right (eqb u x) (U x) o
 
@@ -166,7 +208,7 @@ unfolding step-after
 step-going b (Edge v w) h f = edge-going (b .graph) (b .used) v w h f
 step-going b (Node u v w) h f = node-going (b .graph) (b .used) u v w h f
 
-node-size : (m : Graph) (U : ℕ → Bool) (u v w : ℕ) → Going (building m U) → Spliceable m U u v w → size (joining (unjoining (joining m u v) v w) u w) ≡ size m + 1
+node-size : (m : Graph) (U : ℕ → Bool) (u v w : ℕ) → Going (building m U) → Node-fits m U u v w → size (joining (unjoining (joining m u v) v w) u w) ≡ size m + 1
 node-size m U u v w h f =
     let alone = no-neighbours m U u (h .within) (f .fresh) in
     let s₁ : Simple (joining m u v) = joining-simple m u v (f .hu) (f .hv) (f .uv) (h .simple) in
@@ -175,7 +217,7 @@ node-size m U u v w h f =
     let less : size (joining m u v) ≡ size (unjoining (joining m u v) v w) + 1 = unjoining-size (joining m u v) v w (f .hv) (f .hw) (f .vw) s₁ held₁ in
     let free : unjoining (joining m u v) v w .adj u w ≡ false = third-free m u v w (f .uv) (f .uw) (f .vw) (alone w) in
     let last : size (joining (unjoining (joining m u v) v w) u w) ≡ size (unjoining (joining m u v) v w) + 1
-          = joining-size (unjoining (joining m u v) v w) u w (f .hu) (f .hw) (f .uw) (unjoining-simple (joining m u v) v w s₁) free in
+    = joining-size (unjoining (joining m u v) v w) u w (f .hu) (f .hw) (f .uw) (unjoining-simple (joining m u v) v w s₁) free in
     omega arith
 
 pub step-size : (b : Building) (s : Step) → Going b → Fits b s → size (step-after b s .graph) ≡ size (b .graph) + 1

@@ -6,10 +6,10 @@ use mathlib.Core.Logic.{⊎-elim}
 use Prim.Native.Nat.{ℕ, zero, suc, _+_, _-_, _≤_, _<_}
 use native.Mathlib.Omega.{arith}
 use lib.Dec.{eqb, ltb, leb}
-use lib.ListN.{length, getD, set}
+use lib.ListN.{length, getD, set, replicate}
 use lib.Seq.{getD-set-same, getD-set-other}
 use Rattle.std.proofs.shelf.Ways.{tells}
-use Rattle.std.proofs.shelf.Tests.{cases-bool, cases-eq, both-ways, not-false, ltb-true, ltb-false, eqb-false, and-parts, eq-eqb, ne-eqb}
+use Rattle.std.proofs.shelf.Tests.{cases-bool, cases-eq, both-ways, not-false, ltb-true, ltb-false, eqb-false, and-parts, eq-eqb, ne-eqb, lt-ltb, lt-leb}
 use Rattle.std.specs.declared.result.Result.{Result}
 use Rattle.std.specs.declared.result.Result.the-variants.{Ok, Err}
 use Rattle.theory.specs.Graph.{Graph, Simple, same-pair, joined, joining, unjoining, is-table, size, some-join}
@@ -24,7 +24,7 @@ use Rattle.graph.specs.declared.fault.StoreFault.{StoreFault}
 use Rattle.graph.specs.declared.fault.StoreFault.the-variants.{UnknownTable, SameTable, AlreadyJoined, NotJoined, Full}
 use Rattle.construction.specs.Fault.{marked}
 use Rattle.construction.specs.Replay.{Building, start-answer, started, step-answer, step-after, close-from}
-use Rattle.construction.specs.Inner.{flagged, building, under-way, left, Within-use, edge-used, node-conditions, node-judged, full-answer, spliced}
+use Rattle.construction.specs.Inner.{flagged, building, under-way, left, Within-use, triangle-answer, corners, edge-used, node-conditions, node-judged, held-answer, splice-conditions, splice-answer, spliced}
 use Rattle.construction.specs.declared.fault.AtStep.{AtStep}
 use Rattle.construction.specs.declared.fault.ReplayFault.{ReplayFault}
 use Rattle.construction.specs.declared.fault.ReplayFault.the-variants.{Store, HasJoins, NotTriangle, InUse, NotInUse, Unused}
@@ -74,6 +74,9 @@ as-before m m′ changed r f e broke = e ∙ ap (λ x. after x changed m) broke
 pub join-at : (m m′ : Graph) (c c′ a b : ℕ) → m′ ≡ m → c′ ≡ c → join-answer m′ c′ a b ≡ join-answer m c a b
 join-at m m′ c c′ a b e h = ap (λ x. join-answer x c′ a b) e ∙ ap (λ x. join-answer m x a b) h
 
+pub unjoin-at : (m m′ : Graph) (a b : ℕ) → m′ ≡ m → unjoin-answer m′ a b ≡ unjoin-answer m a b
+unjoin-at m m′ a b e = ap (λ x. unjoin-answer x a b) e
+
 -- ---- flags
 
 pub flag-up : (f : List Bool) (i : ℕ) → i < length f → (x : ℕ) → flagged (set f i true) x ≡ with-table i (flagged f) x
@@ -87,6 +90,12 @@ pub same-building : (m m′ : Graph) (U U′ : ℕ → Bool) → m ≡ m′ → 
 same-building m m′ U U′ e h = λ i. record { graph = e i; used = λ x. h x i }
 
 -- ---- the triangle
+
+-- the start's answer from what the store says of itself
+pub start-at : (m : Graph) (c : ℕ) (t : Triangle) (some : Bool) (n c′ : ℕ) (r : Result Unit ReplayFault) → r ≡ triangle-answer some n c′ t
+    → some ≡ some-join m → n ≡ m .tables → c′ ≡ c → r ≡ start-answer m c t
+start-at m c t some n c′ r is e f h =
+    is ∙ ap (λ x. triangle-answer x n c′ t) e ∙ ap (λ x. triangle-answer (some-join m) x c′ t) f ∙ ap (λ x. triangle-answer (some-join m) (m .tables) x t) h
 
 pub record Startable (m : Graph) (c : ℕ) (t : Triangle) : Type 0 where
   pub clear : (a b : ℕ) → m .adj a b ≡ false
@@ -184,9 +193,14 @@ module _ (m : Graph) (c : ℕ) (t : Triangle) (s : Simple m) (h : Startable m c 
       omega arith
 
 -- the flags after the triangle
-pub seated : (f : List Bool) (t : Triangle) → ((k : ℕ) → flagged f k ≡ false) → t .a < length f → t .b < length (set f (t .a) true) → t .c < length (set (set f (t .a) true) (t .b) true)
-    → (x : ℕ) → flagged (set (set (set f (t .a) true) (t .b) true) (t .c) true) x ≡ triangle t .in-use x
-seated f t down la lb lc x =
+pub all-down : (n k : ℕ) → flagged (replicate n false) k ≡ false
+all-down zero k = refl
+all-down (suc n) zero = refl
+all-down (suc n) (suc k) = all-down n k
+
+pub three-up : (f : List Bool) (t : Triangle) → ((k : ℕ) → flagged f k ≡ false) → t .a < length f → t .b < length (set f (t .a) true) → t .c < length (set (set f (t .a) true) (t .b) true)
+    → (x : ℕ) → flagged (set (set (set f (t .a) true) (t .b) true) (t .c) true) x ≡ corners t x
+three-up f t down la lb lc x =
     flag-up (set (set f (t .a) true) (t .b) true) (t .c) lc x
     ∙ ap (λ v. eqb (t .c) x || v) (flag-up (set f (t .a) true) (t .b) lb x)
     ∙ ap (λ v. eqb (t .c) x || (eqb (t .b) x || v)) (flag-up f (t .a) la x)
@@ -273,82 +287,120 @@ edge-taken c k m m′ U v w r whole is meant ok =
 
 -- ---- a node step
 
-pub record Spliceable (m : Graph) (U : ℕ → Bool) (u v w : ℕ) : Type 0 where
-  pub hu : u < m .tables
-  pub hv : v < m .tables
-  pub hw : w < m .tables
+-- the tables of a node step are in order
+pub record Named (n : ℕ) (U : ℕ → Bool) (u v w : ℕ) : Type 0 where
+  pub hu : u < n
+  pub hv : v < n
+  pub hw : w < n
   pub uv : u ≡ v → ⊥
   pub uw : u ≡ w → ⊥
   pub vw : v ≡ w → ⊥
   pub fresh : U u ≡ false
   pub placed-v : U v ≡ true
   pub placed-w : U w ≡ true
-  pub held : m .adj v w ≡ true
 
-pub spliceable : (m : Graph) (U : ℕ → Bool) (k u v w : ℕ) → node-judged m U k u v w ≡ Ok tt → Spliceable m U u v w
-spliceable m U k u v w h =
-    let e₁ = past (not (is-table m u)) (Store k (UnknownTable u)) _ h in
-    let e₂ = past (not (is-table m v)) (Store k (UnknownTable v)) _ (e₁ .1) in
-    let e₃ = past (not (is-table m w)) (Store k (UnknownTable w)) _ (e₂ .1) in
+pub well-named : (n : ℕ) (U : ℕ → Bool) (k u v w : ℕ) → node-judged n U k u v w ≡ Ok tt → Named n U u v w
+well-named n U k u v w h =
+    let e₁ = past (not (ltb u n)) (Store k (UnknownTable u)) _ h in
+    let e₂ = past (not (ltb v n)) (Store k (UnknownTable v)) _ (e₁ .1) in
+    let e₃ = past (not (ltb w n)) (Store k (UnknownTable w)) _ (e₂ .1) in
     let e₄ = past (eqb u v) (Store k (SameTable u)) _ (e₃ .1) in
     let e₅ = past (eqb u w) (Store k (SameTable u)) _ (e₄ .1) in
     let e₆ = past (eqb v w) (Store k (SameTable v)) _ (e₅ .1) in
     let e₇ = past (U u) (InUse k u) _ (e₆ .1) in
     let e₈ = past (not (U v)) (NotInUse k v) _ (e₇ .1) in
     let e₉ = past (not (U w)) (NotInUse k w) _ (e₈ .1) in
-    let e₀ = past (not (joined m v w)) (Store k (NotJoined v w)) _ (e₉ .1) in
     record {
-      hu = ltb-true u (m .tables) (not-false (is-table m u) (e₁ .0));
-      hv = ltb-true v (m .tables) (not-false (is-table m v) (e₂ .0));
-      hw = ltb-true w (m .tables) (not-false (is-table m w) (e₃ .0));
+      hu = ltb-true u n (not-false (ltb u n) (e₁ .0));
+      hv = ltb-true v n (not-false (ltb v n) (e₂ .0));
+      hw = ltb-true w n (not-false (ltb w n) (e₃ .0));
       uv = eqb-false u v (e₄ .0);
       uw = eqb-false u w (e₅ .0);
       vw = eqb-false v w (e₆ .0);
       fresh = e₇ .0;
       placed-v = not-false (U v) (e₈ .0);
       placed-w = not-false (U w) (e₉ .0);
-      held = not-false (joined m v w) (e₀ .0);
     }
 
 -- a table that is not in use has no joins
 pub no-neighbours : (m : Graph) (U : ℕ → Bool) (u : ℕ) → Within-use m U → U u ≡ false → (x : ℕ) → m .adj u x ≡ false
 no-neighbours m U u within fresh x = ⊎-elim (λ e. absurd (both-ways (U u) fresh (within u x e))) (λ e. e) (cases-bool (m .adj u x))
 
-module _ (c k : ℕ) (m : Graph) (U : ℕ → Bool) (u v w : ℕ) where
-  pub node-on : node-judged m U k u v w ≡ Ok tt → step-answer c k (building m U) (Node u v w) ≡ full-answer m c k
-  unfolding step-answer
-  node-on ok = first-on (node-conditions m U k u v w) ((leb c (size m), Store k (Full c)) ∷ []) ok
+pub is-held : (m : Graph) (v w : ℕ) → held-answer m v w ≡ Ok tt → m .adj v w ≡ true
+is-held m v w e = not-false (joined m v w) (past (not (joined m v w)) (NotJoined v w) (Ok tt) e .0)
 
-  node-off : (f : ReplayFault) → node-judged m U k u v w ≡ Err f → step-answer c k (building m U) (Node u v w) ≡ Err f
-  unfolding step-answer
-  node-off f e = first-off (node-conditions m U k u v w) ((leb c (size m), Store k (Full c)) ∷ []) f e
+module _ (c k : ℕ) (m : Graph) (u v w : ℕ) where
+  -- v and w are not joined
+  pub not-held : (f : StoreFault) (final : Result Unit ReplayFault) → held-answer m v w ≡ Err f → final ≡ carried k (held-answer m v w)
+      → (final ≡ splice-answer m c k v w) × (m ≡ left final (spliced m u v w) m)
+  not-held f final broke gave =
+      (gave ∙ over (joined m v w) broke, sym (ap (λ r. left r (spliced m u v w) m) (gave ∙ ap (carried k) broke)))
+    where
+      over : (j : Bool) → refused-first ((not j, NotJoined v w) ∷ []) ≡ Err f
+          → carried k (refused-first ((not j, NotJoined v w) ∷ [])) ≡ refused-first ((not j, Store k (NotJoined v w)) ∷ (leb c (size m), Store k (Full c)) ∷ [])
+      over true e = absurd (ok-err f e)
+      over false e = refl
 
-  pub node-refused : (a y : ReplayFault) (final : Result Unit ReplayFault) → node-judged m U k u v w ≡ Err a → final ≡ Err y → y ≡ a
+  -- the first edit is refused
+  pub no-room : (m′ : Graph) (r : Result Unit StoreFault) (f : StoreFault) (final : Result Unit ReplayFault) → Simple m → u < m .tables → v < m .tables → (u ≡ v → ⊥)
+      → m .adj u v ≡ false → m .adj v w ≡ true → r ≡ join-answer m c u v → m′ ≡ after r (joining m u v) m → r ≡ Err f → final ≡ carried k r
+      → (final ≡ splice-answer m c k v w) × (m′ ≡ left final (spliced m u v w) m)
+  no-room m′ r f final s hu hv uv free held is meant broke gave = (
+    gave ∙ ap (carried k) is
+        ∙ rw (lt-ltb u (m .tables) hu, lt-ltb v (m .tables) hv, ne-eqb u v uv, free, held) (over (leb c (size m))),
+    as-before m m′ (joining m u v) r f meant broke ∙ sym (ap (λ z. left z (spliced m u v w) m) (gave ∙ ap (carried k) broke)),
+  )
+    where
+      over : (b : Bool) → carried k (cond b (Err (Full c)) (Ok tt)) ≡ cond b (Err (Store k (Full c))) (Ok tt)
+      over true = refl
+      over false = refl
+
+  -- all is well
+  pub spliced-ok : m .adj v w ≡ true → size m < c → Ok tt ≡ splice-answer m c k v w
+  spliced-ok held room = sym (rw (held, lt-leb c (size m) room))
+
+module _ (c k : ℕ) (m : Graph) (U : ℕ → Bool) (u v w n : ℕ) (judged : Result Unit ReplayFault) (tables : n ≡ m .tables) (is : judged ≡ node-judged n U k u v w) where
+  node-is-at : judged ≡ node-judged (m .tables) U k u v w
+  node-is-at = is ∙ ap (λ j. node-judged j U k u v w) tables
+
+  pub node-named : judged ≡ Ok tt → Named (m .tables) U u v w
+  node-named ok = well-named (m .tables) U k u v w (sym node-is-at ∙ ok)
+
+  node-on : judged ≡ Ok tt → step-answer c k (building m U) (Node u v w) ≡ splice-answer m c k v w
+  unfolding step-answer
+  node-on ok = first-on (node-conditions (m .tables) U k u v w) (splice-conditions m c k v w) (sym node-is-at ∙ ok)
+
+  node-off : (f : ReplayFault) → judged ≡ Err f → step-answer c k (building m U) (Node u v w) ≡ Err f
+  unfolding step-answer
+  node-off f e = first-off (node-conditions (m .tables) U k u v w) (splice-conditions m c k v w) f (sym node-is-at ∙ e)
+
+  -- the tables are refused
+  pub node-refused : (a y : ReplayFault) (final : Result Unit ReplayFault) → judged ≡ Err a → final ≡ Err y → y ≡ a
       → (final ≡ step-answer c k (building m U) (Node u v w))
       × (building m U ≡ left final (step-after (building m U) (Node u v w)) (building m U))
   node-refused a y final broke gave by =
       let e : final ≡ Err a = gave ∙ ap (λ z. Err z) by in
       (e ∙ sym (node-off a broke), sym (ap (λ r. left r (step-after (building m U) (Node u v w)) (building m U)) e))
 
-  -- the store is full
-  pub node-full : (m′ : Graph) (r : Result Unit ReplayFault) (a y : ReplayFault) (final : Result Unit ReplayFault) → node-judged m U k u v w ≡ Ok tt
-      → r ≡ full-answer m c k → m′ ≡ left r (spliced m u v w) m → r ≡ Err a → final ≡ Err y → y ≡ a
+  -- the joins are refused
+  pub node-full : (m′ : Graph) (r : Result Unit ReplayFault) (a y : ReplayFault) (final : Result Unit ReplayFault) → judged ≡ Ok tt
+      → r ≡ splice-answer m c k v w → m′ ≡ left r (spliced m u v w) m → r ≡ Err a → final ≡ Err y → y ≡ a
       → (final ≡ step-answer c k (building m U) (Node u v w))
       × (building m′ U ≡ left final (step-after (building m U) (Node u v w)) (building m U))
-  node-full m′ r a y final ok is meant broke gave by =
+  node-full m′ r a y final ok did meant broke gave by =
       let e : final ≡ Err a = gave ∙ ap (λ z. Err z) by in (
-        e ∙ sym broke ∙ is ∙ sym (node-on ok),
+        e ∙ sym broke ∙ did ∙ sym (node-on ok),
         same-building m′ m U U (meant ∙ ap (λ z. left z (spliced m u v w) m) broke) (λ _. refl)
             ∙ sym (ap (λ z. left z (step-after (building m U) (Node u v w)) (building m U)) e),
       )
 
-  pub node-taken : (m′ : Graph) (U′ : ℕ → Bool) (r : Result Unit ReplayFault) → node-judged m U k u v w ≡ Ok tt
-      → r ≡ full-answer m c k → m′ ≡ left r (spliced m u v w) m → r ≡ Ok tt → ((x : ℕ) → U′ x ≡ with-table u U x)
+  pub node-taken : (m′ : Graph) (U′ : ℕ → Bool) (r : Result Unit ReplayFault) → judged ≡ Ok tt
+      → r ≡ splice-answer m c k v w → m′ ≡ left r (spliced m u v w) m → r ≡ Ok tt → ((x : ℕ) → U′ x ≡ with-table u U x)
       → (Ok tt ≡ step-answer c k (building m U) (Node u v w))
       × (building m′ U′ ≡ step-after (building m U) (Node u v w))
   unfolding step-after
-  node-taken m′ U′ r ok is meant took up =
-      (sym took ∙ is ∙ sym (node-on ok), same-building m′ (spliced m u v w) U′ (with-table u U) (meant ∙ ap (λ z. left z (spliced m u v w) m) took) up)
+  node-taken m′ U′ r ok did meant took up =
+      (sym took ∙ did ∙ sym (node-on ok), same-building m′ (spliced m u v w) U′ (with-table u U) (meant ∙ ap (λ z. left z (spliced m u v w) m) took) up)
 
 -- ---- the close
 

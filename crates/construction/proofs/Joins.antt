@@ -49,6 +49,9 @@ all-clear m s e a b =
 pub join-ok : (m : Graph) (c a b : ℕ) → a < m .tables → b < m .tables → (a ≡ b → ⊥) → m .adj a b ≡ false → size m < c → join-answer m c a b ≡ Ok tt
 join-ok m c a b ha hb ne free room = rw (lt-ltb a (m .tables) ha, lt-ltb b (m .tables) hb, ne-eqb a b ne, free, lt-leb c (size m) room)
 
+unjoin-ok : (m : Graph) (a b : ℕ) → a < m .tables → b < m .tables → (a ≡ b → ⊥) → m .adj a b ≡ true → unjoin-answer m a b ≡ Ok tt
+unjoin-ok m a b ha hb ne held = rw (lt-ltb a (m .tables) ha, lt-ltb b (m .tables) hb, ne-eqb a b ne, held)
+
 -- there is room where a join has been accepted
 pub join-room : (m : Graph) (c a b : ℕ) → join-answer m c a b ≡ Ok tt → size m < c
 join-room m c a b e =
@@ -57,6 +60,10 @@ join-room m c a b e =
     let e₃ = past (eqb a b) _ _ e₂ .1 in
     let e₄ = past (joined m a b) _ _ e₃ .1 in
     leb-false c (size m) (past (leb c (size m)) _ _ e₄ .0)
+
+-- the second edit of a node step is accepted
+pub second-ok : (m : Graph) (u v w : ℕ) → v < m .tables → w < m .tables → (v ≡ w → ⊥) → m .adj v w ≡ true → unjoin-answer (joining m u v) v w ≡ Ok tt
+second-ok m u v w hv hw vw held = unjoin-ok (joining m u v) v w hv hw vw (or-right (same-pair u v v w) (m .adj v w) held)
 
 -- the third edit of a node step finds its pair free
 pub third-free : (m : Graph) (u v w : ℕ) → (u ≡ v → ⊥) → (u ≡ w → ⊥) → (v ≡ w → ⊥) → m .adj u w ≡ false → unjoining (joining m u v) v w .adj u w ≡ false

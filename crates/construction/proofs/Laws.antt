@@ -21,7 +21,7 @@ use Rattle.graph.specs.First.{refused-first}
 use Rattle.graph.specs.declared.fault.StoreFault.the-variants.{UnknownTable, SameTable, AlreadyJoined, NotJoined, Full}
 use Rattle.construction.specs.Fault.{replay-number, replay-step}
 use Rattle.construction.specs.Replay.{Building, Played, start-answer, started, step-answer, step-after, close-from, close-answer, onward, steps-from, replayed}
-use Rattle.construction.specs.Inner.{node-conditions}
+use Rattle.construction.specs.Inner.{node-conditions, splice-conditions}
 use Rattle.construction.specs.Law.{Accepted-exactly, Accepted-with-room, conditions, Refused-at-first}
 use Rattle.construction.specs.declared.fault.ReplayFault.{ReplayFault}
 use Rattle.construction.specs.declared.fault.ReplayFault.the-variants.{Store, HasJoins, NotTriangle, InUse, NotInUse, Unused}
@@ -77,7 +77,7 @@ built-size [] b g n h built =
     omega arith
 built-size (s ∷ l) b g n h built =
     let ih : size g ≡ size (step-after b s .graph) + length l
-          = built-size l (step-after b s) g (legal-tables b s l g n h built) (legal-going b s l g n h built) (legal-rest b s l g n h built) in
+    = built-size l (step-after b s) g (legal-tables b s l g n h built) (legal-going b s l g n h built) (legal-rest b s l g n h built) in
     let more : size (step-after b s .graph) ≡ size (b .graph) + 1 = step-size b s h (legal-fits b s l g n h built) in
     omega arith
 
@@ -115,15 +115,15 @@ closed-whole b h e = λ i. record { in-use = λ x. same x i; joins = b .graph .a
     same : (x : ℕ) → b .used x ≡ is-table (b .graph) x
     same x =
         ⊎-elim
-          (λ (l : x < b .graph .tables). used-all 0 (b .graph .tables) (b .used) e x (omega arith) (omega arith) ∙ sym (lt-ltb x (b .graph .tables) l))
-          (λ (l : b .graph .tables ≤ x).
-            ⊎-elim (λ u. let t : x < b .graph .tables = h .tables x u in absurd (omega arith)) (λ u. u ∙ sym (le-ltb x (b .graph .tables) l)) (cases-bool (b .used x)))
-          (cases-lt x (b .graph .tables))
+        (λ (l : x < b .graph .tables). used-all 0 (b .graph .tables) (b .used) e x (omega arith) (omega arith) ∙ sym (lt-ltb x (b .graph .tables) l))
+        (λ (l : b .graph .tables ≤ x).
+        ⊎-elim (λ u. let t : x < b .graph .tables = h .tables x u in absurd (omega arith)) (λ u. u ∙ sym (le-ltb x (b .graph .tables) l)) (cases-bool (b .used x)))
+        (cases-lt x (b .graph .tables))
 
 whole-closed : (b : Building) (g : Graph) → g .tables ≡ b .graph .tables → part-of b ≡ whole g → close-answer b ≡ Ok tt
 whole-closed b g n e =
     all-used 0 (b .graph .tables) (b .used)
-      (λ x _ l. ap (λ (p : Part). p .in-use x) e ∙ lt-ltb x (g .tables) (omega arith))
+    (λ x _ l. ap (λ (p : Part). p .in-use x) e ∙ lt-ltb x (g .tables) (omega arith))
 
 -- ---- the steps
 
@@ -150,28 +150,28 @@ played-tables : (c k : ℕ) (b : Building) (l : List Step) → steps-from c k b 
 played-tables c k b [] = ap (λ p. graph-of p .tables) (at-end c k b)
 played-tables c k b (s ∷ l) =
     ⊎-elim
-      (λ ok. ap (λ p. graph-of p .tables) (on c k b s l ok) ∙ played-tables c (k + 1) (step-after b s) l ∙ step-tables b s)
-      (λ bad. ap (λ p. graph-of p .tables) (off c k b s l (bad .0) (bad .1)))
-      (cases-answer (step-answer c k b s))
+    (λ ok. ap (λ p. graph-of p .tables) (on c k b s l ok) ∙ played-tables c (k + 1) (step-after b s) l ∙ step-tables b s)
+    (λ bad. ap (λ p. graph-of p .tables) (off c k b s l (bad .0) (bad .1)))
+    (cases-answer (step-answer c k b s))
 
 -- accepted steps are a legal build of the graph that is left
 played-builds : (c k : ℕ) (b : Building) (l : List Step) → Going b → steps-from c k b l .told ≡ Ok tt → Builds (part-of b) l (whole (steps-from c k b l .graph))
 played-builds c k b [] h e =
     let z = at-end c k b in
     subst (λ (p : Part). Builds (part-of b) [] p)
-      (closed-whole b h (sym (ap told-of z) ∙ e) ∙ ap (λ p. whole (graph-of p)) (sym z))
-      done
+    (closed-whole b h (sym (ap told-of z) ∙ e) ∙ ap (λ p. whole (graph-of p)) (sym z))
+    done
 played-builds c k b (s ∷ l) h e =
     ⊎-elim
-      (λ ok.
-        let z = on c k b s l ok in
-        let f = answer-fits c k b s ok .0 in
-        next (fits-allowed b s f)
-          (subst (λ p. Builds p l (whole (steps-from c k b (s ∷ l) .graph))) (sym (part-after b s))
-            (subst (λ q. Builds (part-of (step-after b s)) l (whole (graph-of q))) (sym z)
-              (played-builds c (k + 1) (step-after b s) l (step-going b s h f) (sym (ap told-of z) ∙ e)))))
-      (λ bad. absurd (ok-err (bad .0) (sym e ∙ ap told-of (off c k b s l (bad .0) (bad .1)))))
-      (cases-answer (step-answer c k b s))
+    (λ ok.
+    let z = on c k b s l ok in
+    let f = answer-fits c k b s ok .0 in
+    next (fits-allowed b s f)
+    (subst (λ p. Builds p l (whole (steps-from c k b (s ∷ l) .graph))) (sym (part-after b s))
+    (subst (λ q. Builds (part-of (step-after b s)) l (whole (graph-of q))) (sym z)
+    (played-builds c (k + 1) (step-after b s) l (step-going b s h f) (sym (ap told-of z) ∙ e)))))
+    (λ bad. absurd (ok-err (bad .0) (sym e ∙ ap told-of (off c k b s l (bad .0) (bad .1)))))
+    (cases-answer (step-answer c k b s))
 
 -- where the steps are a legal build of the graph that is left, they are accepted: a refusal would leave steps that add joins
 builds-played : (c k : ℕ) (b : Building) (l : List Step) → Going b → Builds (part-of b) l (whole (steps-from c k b l .graph)) → steps-from c k b l .told ≡ Ok tt
@@ -181,16 +181,16 @@ builds-played c k b [] h built =
 builds-played c k b (s ∷ l) h built =
     let n = played-tables c k b (s ∷ l) in
     ⊎-elim
-      (λ ok.
-        let z = on c k b s l ok in
-        ap told-of z
-        ∙ builds-played c (k + 1) (step-after b s) l (legal-going b s l (steps-from c k b (s ∷ l) .graph) n h built)
-            (subst (λ q. Builds (part-of (step-after b s)) l (whole (graph-of q))) z (legal-rest b s l (steps-from c k b (s ∷ l) .graph) n h built)))
-      (λ bad.
-        let z : size (steps-from c k b (s ∷ l) .graph) ≡ size (b .graph) = ap (λ q. size (graph-of q)) (off c k b s l (bad .0) (bad .1)) in
-        let more : size (steps-from c k b (s ∷ l) .graph) ≡ size (b .graph) + suc (length l) = built-size (s ∷ l) b (steps-from c k b (s ∷ l) .graph) n h built in
-        absurd (omega arith))
-      (cases-answer (step-answer c k b s))
+    (λ ok.
+    let z = on c k b s l ok in
+    ap told-of z
+    ∙ builds-played c (k + 1) (step-after b s) l (legal-going b s l (steps-from c k b (s ∷ l) .graph) n h built)
+    (subst (λ q. Builds (part-of (step-after b s)) l (whole (graph-of q))) z (legal-rest b s l (steps-from c k b (s ∷ l) .graph) n h built)))
+    (λ bad.
+    let z : size (steps-from c k b (s ∷ l) .graph) ≡ size (b .graph) = ap (λ q. size (graph-of q)) (off c k b s l (bad .0) (bad .1)) in
+    let more : size (steps-from c k b (s ∷ l) .graph) ≡ size (b .graph) + suc (length l) = built-size (s ∷ l) b (steps-from c k b (s ∷ l) .graph) n h built in
+    absurd (omega arith))
+    (cases-answer (step-answer c k b s))
 
 -- with room for all joins, every legal build is accepted
 room-played : (c k : ℕ) (b : Building) (l : List Step) (g : Graph) → g .tables ≡ b .graph .tables → Going b → Builds (part-of b) l (whole g)
@@ -211,8 +211,8 @@ numbered (Err f) = Err (replay-number f)
 
 edge-numbered : (c k v w : ℕ) (a b e p q j f : Bool)
     → numbered (refused-first ((not a, Store k (UnknownTable v)) ∷ (not b, Store k (UnknownTable w)) ∷ (e, Store k (SameTable v)) ∷ (not p, NotInUse k v) ∷ (not q, NotInUse k w)
-        ∷ (j, Store k (AlreadyJoined v w)) ∷ (f, Store k (Full c)) ∷ []))
-      ≡ refused-first ((not (a && b), 1) ∷ (e, 2) ∷ (not (p && q), 13) ∷ (j, 3) ∷ (f, 5) ∷ [])
+    ∷ (j, Store k (AlreadyJoined v w)) ∷ (f, Store k (Full c)) ∷ []))
+    ≡ refused-first ((not (a && b), 1) ∷ (e, 2) ∷ (not (p && q), 13) ∷ (j, 3) ∷ (f, 5) ∷ [])
 edge-numbered c k v w false b e p q j f = refl
 edge-numbered c k v w true false e p q j f = refl
 edge-numbered c k v w true true true p q j f = refl
@@ -224,9 +224,9 @@ edge-numbered c k v w true true false true true false false = refl
 
 node-numbered : (c k u v w : ℕ) (a b d x y z n p q j f : Bool)
     → numbered (refused-first ((not a, Store k (UnknownTable u)) ∷ (not b, Store k (UnknownTable v)) ∷ (not d, Store k (UnknownTable w))
-        ∷ (x, Store k (SameTable u)) ∷ (y, Store k (SameTable u)) ∷ (z, Store k (SameTable v)) ∷ (n, InUse k u) ∷ (not p, NotInUse k v) ∷ (not q, NotInUse k w)
-        ∷ (not j, Store k (NotJoined v w)) ∷ (f, Store k (Full c)) ∷ []))
-      ≡ refused-first ((not (a && (b && d)), 1) ∷ (x || (y || z), 2) ∷ (n, 12) ∷ (not (p && q), 13) ∷ (not j, 4) ∷ (f, 5) ∷ [])
+    ∷ (x, Store k (SameTable u)) ∷ (y, Store k (SameTable u)) ∷ (z, Store k (SameTable v)) ∷ (n, InUse k u) ∷ (not p, NotInUse k v) ∷ (not q, NotInUse k w)
+    ∷ (not j, Store k (NotJoined v w)) ∷ (f, Store k (Full c)) ∷ []))
+    ≡ refused-first ((not (a && (b && d)), 1) ∷ (x || (y || z), 2) ∷ (n, 12) ∷ (not (p && q), 13) ∷ (not j, 4) ∷ (f, 5) ∷ [])
 node-numbered c k u v w false b d x y z n p q j f = refl
 node-numbered c k u v w true false d x y z n p q j f = refl
 node-numbered c k u v w true true false x y z n p q j f = refl
@@ -246,7 +246,7 @@ step-numbered c k b (Edge v w) =
     edge-numbered c k v w (is-table (b .graph) v) (is-table (b .graph) w) (eqb v w) (b .used v) (b .used w) (joined (b .graph) v w) (leb c (size (b .graph)))
 step-numbered c k b (Node u v w) =
     node-numbered c k u v w (is-table (b .graph) u) (is-table (b .graph) v) (is-table (b .graph) w) (eqb u v) (eqb u w) (eqb v w) (b .used u) (b .used v) (b .used w)
-      (joined (b .graph) v w) (leb c (size (b .graph)))
+    (joined (b .graph) v w) (leb c (size (b .graph)))
 
 -- every refusal of a list names the same step
 abbrev All-at : ℕ → List (Bool × ReplayFault) → Type 0
@@ -265,13 +265,13 @@ step-step : (c k : ℕ) (b : Building) (s : Step) (f : ReplayFault) → step-ans
 unfolding step-answer
 step-step c k b (Edge v w) f e =
     first-step k
-      ((not (is-table (b .graph) v), Store k (UnknownTable v)) ∷ (not (is-table (b .graph) w), Store k (UnknownTable w)) ∷ (eqb v w, Store k (SameTable v))
-        ∷ (not (b .used v), NotInUse k v) ∷ (not (b .used w), NotInUse k w) ∷ (joined (b .graph) v w, Store k (AlreadyJoined v w))
-        ∷ (leb c (size (b .graph)), Store k (Full c)) ∷ [])
-      (refl, (refl, (refl, (refl, (refl, (refl, (refl, tt))))))) f e
+    ((not (is-table (b .graph) v), Store k (UnknownTable v)) ∷ (not (is-table (b .graph) w), Store k (UnknownTable w)) ∷ (eqb v w, Store k (SameTable v))
+    ∷ (not (b .used v), NotInUse k v) ∷ (not (b .used w), NotInUse k w) ∷ (joined (b .graph) v w, Store k (AlreadyJoined v w))
+    ∷ (leb c (size (b .graph)), Store k (Full c)) ∷ [])
+    (refl, (refl, (refl, (refl, (refl, (refl, (refl, tt))))))) f e
 step-step c k b (Node u v w) f e =
-    first-step k (node-conditions (b .graph) (b .used) k u v w ++ ((leb c (size (b .graph)), Store k (Full c)) ∷ []))
-      (refl, (refl, (refl, (refl, (refl, (refl, (refl, (refl, (refl, (refl, (refl, tt))))))))))) f e
+    first-step k (node-conditions (b .graph .tables) (b .used) k u v w ++ splice-conditions (b .graph) c k v w)
+    (refl, (refl, (refl, (refl, (refl, (refl, (refl, (refl, (refl, (refl, (refl, tt))))))))))) f e
 
 -- the refused step, with what stands before it and after it
 record Refusal (c k : ℕ) (b : Building) (l : List Step) (f : ReplayFault) (g : Graph) : Type 0 where
@@ -292,39 +292,39 @@ refusal c k b [] f g h some e =
     absurd (omega arith)
 refusal c k b (s ∷ l) f g h some e =
     ⊎-elim
-      (λ ok.
-        let fits = answer-fits c k b s ok .0 in
-        let r = refusal c (k + 1) (step-after b s) l f g (step-going b s h fits) some (sym (on c k b s l ok) ∙ e) in
-        let later : k + 1 ≤ replay-step f = r .from in
-        let m : replay-step f - k ≡ suc (replay-step f - (k + 1)) = omega arith in
-        record {
-          before = s ∷ r .before;
-          here = r .here;
-          rest = r .rest;
-          used = r .used;
-          from = omega arith;
-          there = ap (λ j. drop j (s ∷ l)) m ∙ r .there;
-          taken = ap (λ j. take j (s ∷ l)) m ∙ ap (λ x. s ∷ x) (r .taken);
-          built = next (fits-allowed b s fits) (subst (λ p. Builds p (r .before) (record { in-use = r .used; joins = joined g })) (sym (part-after b s)) (r .built));
-          first = r .first;
-        })
-      (λ bad.
-        let z = sym (off c k b s l (bad .0) (bad .1)) ∙ e in
-        let told : step-answer c k b s ≡ Err f = bad .1 ∙ ap told-of z in
-        let at : replay-step f ≡ k = step-step c k b s f told in
-        let m : replay-step f - k ≡ 0 = omega arith in
-        record {
-          before = [];
-          here = s;
-          rest = l;
-          used = b .used;
-          from = omega arith;
-          there = ap (λ j. drop j (s ∷ l)) m;
-          taken = ap (λ j. take j (s ∷ l)) m;
-          built = subst (λ x. Builds (part-of b) [] (record { in-use = b .used; joins = joined x })) (ap graph-of z) done;
-          first = ap (λ x. refused-first (conditions c (b .used) x s)) (sym (ap graph-of z)) ∙ sym (step-numbered c k b s) ∙ ap numbered told;
-        })
-      (cases-answer (step-answer c k b s))
+    (λ ok.
+    let fits = answer-fits c k b s ok .0 in
+    let r = refusal c (k + 1) (step-after b s) l f g (step-going b s h fits) some (sym (on c k b s l ok) ∙ e) in
+    let later : k + 1 ≤ replay-step f = r .from in
+    let m : replay-step f - k ≡ suc (replay-step f - (k + 1)) = omega arith in
+    record {
+      before = s ∷ r .before;
+      here = r .here;
+      rest = r .rest;
+      used = r .used;
+      from = omega arith;
+      there = ap (λ j. drop j (s ∷ l)) m ∙ r .there;
+      taken = ap (λ j. take j (s ∷ l)) m ∙ ap (λ x. s ∷ x) (r .taken);
+      built = next (fits-allowed b s fits) (subst (λ p. Builds p (r .before) (record { in-use = r .used; joins = joined g })) (sym (part-after b s)) (r .built));
+      first = r .first;
+    })
+    (λ bad.
+    let z = sym (off c k b s l (bad .0) (bad .1)) ∙ e in
+    let told : step-answer c k b s ≡ Err f = bad .1 ∙ ap told-of z in
+    let at : replay-step f ≡ k = step-step c k b s f told in
+    let m : replay-step f - k ≡ 0 = omega arith in
+    record {
+      before = [];
+      here = s;
+      rest = l;
+      used = b .used;
+      from = omega arith;
+      there = ap (λ j. drop j (s ∷ l)) m;
+      taken = ap (λ j. take j (s ∷ l)) m;
+      built = subst (λ x. Builds (part-of b) [] (record { in-use = b .used; joins = joined x })) (ap graph-of z) done;
+      first = ap (λ x. refused-first (conditions c (b .used) x s)) (sym (ap graph-of z)) ∙ sym (step-numbered c k b s) ∙ ap numbered told;
+    })
+    (cases-answer (step-answer c k b s))
 
 -- ---- the start
 
@@ -348,7 +348,7 @@ legal-startable c m g t l none n room legal =
     third-in-use : (t : Triangle) → triangle t .in-use (t .c) ≡ true
     third-in-use t =
         or-right (eqb (t .a) (t .c)) (eqb (t .b) (t .c) || (eqb (t .c) (t .c) || false))
-          (or-right (eqb (t .b) (t .c)) (eqb (t .c) (t .c) || false) (or-left (eqb (t .c) (t .c)) false (eq-eqb (t .c) (t .c) refl)))
+        (or-right (eqb (t .b) (t .c)) (eqb (t .c) (t .c) || false) (or-left (eqb (t .c) (t .c)) false (eq-eqb (t .c) (t .c) refl)))
 
 startable-answer : (c : ℕ) (m : Graph) (t : Triangle) → Startable m c t → start-answer m c t ≡ Ok tt
 startable-answer c m t h =
@@ -359,15 +359,15 @@ startable-answer c m t h =
 start-step : (c : ℕ) (m : Graph) (t : Triangle) (f : ReplayFault) → start-answer m c t ≡ Err f → replay-step f ≡ 0
 start-step c m t f e =
     first-step 0
-      ((some-join m, HasJoins) ∷ (not (ltb (t .a) (t .b) && (ltb (t .b) (t .c) && is-table m (t .c))), NotTriangle) ∷ (ltb c 3, Store 0 (Full c)) ∷ [])
-      (refl, (refl, (refl, tt))) f e
+    ((some-join m, HasJoins) ∷ (not (ltb (t .a) (t .b) && (ltb (t .b) (t .c) && is-table m (t .c))), NotTriangle) ∷ (ltb c 3, Store 0 (Full c)) ∷ [])
+    (refl, (refl, (refl, tt))) f e
 
 replayed-tables : (c : ℕ) (m : Graph) (t : Triangle) (l : List Step) → replayed c m t l .graph .tables ≡ m .tables
 replayed-tables c m t l =
     ⊎-elim
-      (λ ok. ap (λ p. graph-of p .tables) (begun c m t l ok) ∙ played-tables c 1 (started m t) l)
-      (λ bad. ap (λ p. graph-of p .tables) (not-begun c m t l (bad .0) (bad .1)))
-      (cases-answer (start-answer m c t))
+    (λ ok. ap (λ p. graph-of p .tables) (begun c m t l ok) ∙ played-tables c 1 (started m t) l)
+    (λ bad. ap (λ p. graph-of p .tables) (not-begun c m t l (bad .0) (bad .1)))
+    (cases-answer (start-answer m c t))
 
 -- ---- the laws
 
@@ -375,15 +375,16 @@ module _ (c : ℕ) (m : Graph) (t : Triangle) (l : List Step) (s : Simple m) whe
   accepted-legal : m ≡ no-joins (table-count m) → replayed c m t l .told ≡ Ok tt → Legal-build (replayed c m t l .graph) t l
   accepted-legal none e =
       ⊎-elim
-        (λ ok.
-          let z = begun c m t l ok in
-          let h = startable m c t s ok in
-          ((h .ab, h .bc),
-           subst (λ p. Builds p l (whole (replayed c m t l .graph))) (started-part m t none)
-             (subst (λ q. Builds (part-of (started m t)) l (whole (graph-of q))) (sym z)
-               (played-builds c 1 (started m t) l (started-going m c t s h) (sym (ap told-of z) ∙ e)))))
-        (λ bad. absurd (ok-err (bad .0) (sym e ∙ ap told-of (not-begun c m t l (bad .0) (bad .1)))))
-        (cases-answer (start-answer m c t))
+      (λ ok.
+      let z = begun c m t l ok in
+      let h = startable m c t s ok in (
+        (h .ab, h .bc),
+        subst (λ p. Builds p l (whole (replayed c m t l .graph))) (started-part m t none)
+            (subst (λ q. Builds (part-of (started m t)) l (whole (graph-of q))) (sym z)
+            (played-builds c 1 (started m t) l (started-going m c t s h) (sym (ap told-of z) ∙ e))),
+      ))
+      (λ bad. absurd (ok-err (bad .0) (sym e ∙ ap told-of (not-begun c m t l (bad .0) (bad .1)))))
+      (cases-answer (start-answer m c t))
 
   -- where the triangle is refused the graph has no join, and a build of it has three
   legal-accepted : m ≡ no-joins (table-count m) → Legal-build (replayed c m t l .graph) t l → replayed c m t l .told ≡ Ok tt
@@ -392,16 +393,16 @@ module _ (c : ℕ) (m : Graph) (t : Triangle) (l : List Step) (s : Simple m) whe
       let going = started-going m 3 t s h in
       let built = subst (λ p. Builds p l (whole (replayed c m t l .graph))) (sym (started-part m t none)) (legal .1) in
       ⊎-elim
-        (λ ok.
-          let z = begun c m t l ok in
-          ap told-of z ∙ builds-played c 1 (started m t) l going (subst (λ q. Builds (part-of (started m t)) l (whole (graph-of q))) z built))
-        (λ bad.
-          let z : size (replayed c m t l .graph) ≡ size m = ap (λ q. size (graph-of q)) (not-begun c m t l (bad .0) (bad .1)) in
-          let three : size (started m t .graph) ≡ 3 = started-size m 3 t s h in
-          let many : size (replayed c m t l .graph) ≡ size (started m t .graph) + length l = built-size l (started m t) (replayed c m t l .graph) (replayed-tables c m t l) going built in
-          let zero′ : size m ≡ 0 = no-size m (h .clear) in
-          absurd (omega arith))
-        (cases-answer (start-answer m c t))
+      (λ ok.
+      let z = begun c m t l ok in
+      ap told-of z ∙ builds-played c 1 (started m t) l going (subst (λ q. Builds (part-of (started m t)) l (whole (graph-of q))) z built))
+      (λ bad.
+      let z : size (replayed c m t l .graph) ≡ size m = ap (λ q. size (graph-of q)) (not-begun c m t l (bad .0) (bad .1)) in
+      let three : size (started m t .graph) ≡ 3 = started-size m 3 t s h in
+      let many : size (replayed c m t l .graph) ≡ size (started m t .graph) + length l = built-size l (started m t) (replayed c m t l .graph) (replayed-tables c m t l) going built in
+      let zero′ : size m ≡ 0 = no-size m (h .clear) in
+      absurd (omega arith))
+      (cases-answer (start-answer m c t))
 
   room-accepted : m ≡ no-joins (table-count m) → 3 + length l ≤ c → (h : Graph) → table-count h ≡ table-count m → Legal-build h t l → replayed c m t l .told ≡ Ok tt
   room-accepted none room g n legal =
@@ -409,34 +410,42 @@ module _ (c : ℕ) (m : Graph) (t : Triangle) (l : List Step) (s : Simple m) whe
       let three : size (started m t .graph) ≡ 3 = started-size m c t s h in
       ap told-of (begun c m t l (startable-answer c m t h))
       ∙ room-played c 1 (started m t) l g n (started-going m c t s h)
-          (subst (λ p. Builds p l (whole g)) (sym (started-part m t none)) (legal .1)) (omega arith)
+      (subst (λ p. Builds p l (whole g)) (sym (started-part m t none)) (legal .1)) (omega arith)
 
   refused-first-step : Refused-at-first c m t l (replayed c m t l .told) (replayed c m t l .graph)
   refused-first-step none f e some =
       ⊎-elim
-        (λ ok.
-          let z = begun c m t l ok in
-          let w : replayed c m t l ≡ record { told = Err f; graph = replayed c m t l .graph } = λ i. record { told = e i; graph = replayed c m t l .graph } in
-          let r = refusal c 1 (started m t) l f (replayed c m t l .graph) (started-going m c t s (startable m c t s ok)) some (sym z ∙ w) in
-          (r .before, r .here, r .rest, r .used, r .there, r .taken,
-           subst (λ p. Builds p (r .before) (record { in-use = r .used; joins = joined (replayed c m t l .graph) })) (started-part m t none) (r .built),
-           r .first))
-        (λ bad.
-          let y : replay-step f ≡ 0 = start-step c m t f (bad .1 ∙ sym (ap told-of (not-begun c m t l (bad .0) (bad .1))) ∙ e) in
-          absurd (omega arith))
-        (cases-answer (start-answer m c t))
+      (λ ok.
+      let z = begun c m t l ok in
+      let w : replayed c m t l ≡ record { told = Err f; graph = replayed c m t l .graph } = λ i. record { told = e i; graph = replayed c m t l .graph } in
+      let r = refusal c 1 (started m t) l f (replayed c m t l .graph) (started-going m c t s (startable m c t s ok)) some (sym z ∙ w) in (
+        r .before,
+        r .here,
+        r .rest,
+        r .used,
+        r .there,
+        r .taken,
+        subst (λ p. Builds p (r .before) (record { in-use = r .used; joins = joined (replayed c m t l .graph) })) (started-part m t none) (r .built),
+        r .first,
+      ))
+      (λ bad.
+      let y : replay-step f ≡ 0 = start-step c m t f (bad .1 ∙ sym (ap told-of (not-begun c m t l (bad .0) (bad .1))) ∙ e) in
+      absurd (omega arith))
+      (cases-answer (start-answer m c t))
 
   -- the three, of what a call answers and leaves
   module _ (r : Result Unit ReplayFault) (g : Graph) (answer : r ≡ replayed c m t l .told) (meant : g ≡ replayed c m t l .graph) where
     pub accepted-exactly : Accepted-exactly m t l r g
-    accepted-exactly none =
-        ((λ e. subst (λ x. Legal-build x t l) (sym meant) (accepted-legal none (sym answer ∙ e))),
-         (λ legal. answer ∙ legal-accepted none (subst (λ x. Legal-build x t l) meant legal)))
+    accepted-exactly none = (
+      (λ e. subst (λ x. Legal-build x t l) (sym meant) (accepted-legal none (sym answer ∙ e))),
+      (λ legal. answer ∙ legal-accepted none (subst (λ x. Legal-build x t l) meant legal)),
+    )
 
     pub accepted-with-room : Accepted-with-room c m t l r
-    accepted-with-room none room =
-        ((λ e. (replayed c m t l .graph, replayed-tables c m t l, accepted-legal none (sym answer ∙ e))),
-         (λ h. answer ∙ room-accepted none room (h .0) (h .1) (h .2)))
+    accepted-with-room none room = (
+      (λ e. (replayed c m t l .graph, replayed-tables c m t l, accepted-legal none (sym answer ∙ e))),
+      (λ h. answer ∙ room-accepted none room (h .0) (h .1) (h .2)),
+    )
 
     pub refused-at-first : Refused-at-first c m t l r g
     refused-at-first none f e some =

@@ -1,9 +1,9 @@
 -- A replay's loop, over plain values: what is left of the list gives the whole.
 use mathlib.Core.Path.{_≡_, refl, sym, ap, subst, _∙_}
-use mathlib.Core.Bool.{false}
+use mathlib.Core.Bool.{Bool}
 use mathlib.Core.List.{List, [], _∷_}
-use Prim.Native.Nat.{ℕ, zero, suc, _+_, _<_, _≤_}
-use lib.ListN.{length, getD, drop, replicate}
+use Prim.Native.Nat.{ℕ, _+_, _<_, _≤_}
+use lib.ListN.{length, getD, drop}
 use Rattle.std.proofs.shelf.Lists.{at-drop-more, at-drop-all}
 use Rattle.std.specs.declared.result.Result.{Result}
 use Rattle.std.specs.declared.result.Result.the-variants.{Ok, Err}
@@ -11,9 +11,9 @@ use Rattle.theory.specs.Graph.{Graph, Simple}
 use Rattle.theory.specs.declared.step.Step.{Step}
 use Rattle.theory.specs.declared.step.Triangle.{Triangle}
 use Rattle.construction.specs.Replay.{Building, Played, start-answer, started, step-answer, step-after, close-answer, onward, steps-from, replayed}
-use Rattle.construction.specs.Inner.{flagged, left}
+use Rattle.construction.specs.Inner.{building, left, corners}
 use Rattle.construction.specs.declared.fault.ReplayFault.{ReplayFault}
-use Rattle.construction.proofs.Inner.{startable}
+use Rattle.construction.proofs.Inner.{startable, same-building}
 use Rattle.construction.proofs.Going.{Going, started-going, answer-fits, step-going}
 
 -- ---- the start
@@ -28,31 +28,26 @@ module _ (c : ℕ) (m : Graph) (t : Triangle) (l : List Step) where
   not-begun f e = ap (λ r. onward r m (steps-from c 1 (started m t) l)) e
 
   -- at the exit of the start
-  pub start-off : (b′ b : Building) (r : Result Unit ReplayFault) (a y : ReplayFault) (final : Result Unit ReplayFault)
-      → r ≡ start-answer m c t → b′ ≡ left r (started m t) b → b .graph ≡ m → r ≡ Err a → final ≡ Err y → y ≡ a
-      → (final ≡ replayed c m t l .told) × (b′ .graph ≡ replayed c m t l .graph)
-  start-off b′ b r a y final is meant same broke gave by =
+  pub start-off : (m₁ : Graph) (r : Result Unit ReplayFault) (a y : ReplayFault) (final : Result Unit ReplayFault)
+      → r ≡ start-answer m c t → m₁ ≡ left r (started m t .graph) m → r ≡ Err a → final ≡ Err y → y ≡ a
+      → (final ≡ replayed c m t l .told) × (m₁ ≡ replayed c m t l .graph)
+  start-off m₁ r a y final is meant broke gave by =
       let e = not-begun a (sym is ∙ broke) in (
         gave ∙ ap (λ z. Err z) by ∙ sym (ap (λ (p : Played). p .told) e),
-        ap (λ (x : Building). x .graph) (meant ∙ ap (λ z. left z (started m t) b) broke) ∙ same ∙ sym (ap (λ (p : Played). p .graph) e),
+        meant ∙ ap (λ z. left z (started m t .graph) m) broke ∙ sym (ap (λ (p : Played). p .graph) e),
       )
 
-  -- and after it: b₀ is the build before the start, and b₁ and c₁ are what it leaves
-  pub entered : (b₁ b₀ : Building) (c₁ : ℕ) (r : Result Unit ReplayFault) → r ≡ start-answer m c t → b₁ ≡ left r (started m t) b₀ → c₁ ≡ c → r ≡ Ok tt
-      → replayed c m t l ≡ steps-from c₁ 1 b₁ l
-  entered b₁ b₀ c₁ r is meant same ok =
-      begun (sym is ∙ ok)
-      ∙ sym (ap (λ n. steps-from n 1 b₁ l) same ∙ ap (λ x. steps-from c 1 x l) (meant ∙ ap (λ z. left z (started m t) b₀) ok))
+  -- and after it: it leaves m₁ and c₁, and U₁ are the tables in use
+  module _ (m₁ : Graph) (U₁ : ℕ → Bool) (r : Result Unit ReplayFault) (is : r ≡ start-answer m c t) (meant : m₁ ≡ left r (started m t .graph) m)
+      (ok : r ≡ Ok tt) (seats : (x : ℕ) → U₁ x ≡ corners t x) where
+    is-started : building m₁ U₁ ≡ started m t
+    is-started = same-building m₁ (started m t .graph) U₁ (corners t) (meant ∙ ap (λ z. left z (started m t .graph) m) ok) seats
 
-  pub entered-going : (b₁ b₀ : Building) (r : Result Unit ReplayFault) → Simple m → r ≡ start-answer m c t → b₁ ≡ left r (started m t) b₀ → r ≡ Ok tt → Going b₁
-  entered-going b₁ b₀ r s is meant ok =
-      subst (λ x. Going x) (sym (meant ∙ ap (λ z. left z (started m t) b₀) ok)) (started-going m c t s (startable m c t s (sym is ∙ ok)))
+    pub entered : (c₁ : ℕ) → c₁ ≡ c → replayed c m t l ≡ steps-from c₁ 1 (building m₁ U₁) l
+    entered c₁ same = begun (sym is ∙ ok) ∙ sym (ap (λ n. steps-from n 1 (building m₁ U₁) l) same ∙ ap (λ x. steps-from c 1 x l) is-started)
 
--- flags that are all down
-pub all-down : (n k : ℕ) → flagged (replicate n false) k ≡ false
-all-down zero k = refl
-all-down (suc n) zero = refl
-all-down (suc n) (suc k) = all-down n k
+    pub entered-going : Simple m → Going (building m₁ U₁)
+    entered-going s = subst (λ x. Going x) (sym is-started) (started-going m c t s (startable m c t s (sym is ∙ ok)))
 
 -- ---- one step
 

@@ -7,7 +7,7 @@ use graph::fault::StoreFaultDebug;
 use graph::fault::StoreFaultPartialEq;
 
 /// A store's refusal at a step: 0 is the triangle, and the first step is 1.
-#[derive(Clone, Copy, PartialEq, Eq, Debug)]
+#[derive(Clone, Copy)]
 pub struct AtStep {
     pub step: usize,
     pub fault: StoreFault,

@@ -1,14 +1,12 @@
 //! A build list played back, step by step, into any editable graph.
 ghost use mathlib.Core.Path.{_≡_};
-ghost use mathlib.Core.Bool.{Bool, true, false};
+ghost use mathlib.Core.Bool.{true, false};
 ghost use Prim.Native.Nat.{ℕ, _+_, _≤_, _<_};
-ghost use lib.ListN.{getD};
-ghost use Rattle.std.specs.declared.result.Result.the-variants.{Ok, Err};
 ghost use Rattle.theory.specs.Graph.{joined as joins, table-count, some-join};
 ghost use Rattle.theory.specs.declared.step.Step.the-variants.{Edge, Node};
 ghost use Rattle.construction.specs.Replay.{start-answer, started, step-answer, step-after, close-from, replayed};
 ghost use Rattle.construction.specs.Law.{Accepted-exactly, Accepted-with-room, Refused-at-first};
-ghost use Rattle.construction.specs.Inner.{flagged, under-way, left, Within-use, used-answer, edge-used, named-answer, node-judged, full-answer, spliced};
+ghost use Rattle.construction.specs.Inner.{flagged, under-way, left, Within-use, triangle-answer, corners, used-answer, edge-used, named-answer, node-judged, held-answer, splice-answer, spliced};
 use super::fault::AtStep;
 use super::fault::ReplayFault;
 use super::fault::ReplayFaultFromAtStep;
@@ -32,63 +30,57 @@ fn has_joins<G: ReadableGraph>(graph: &G) -> bool
 }
 
 /// What stands against a triangle at the start: 10, 11 and 5.
-fn judge_start<G: EditableGraph>(graph: &G, t: Triangle) -> Result<(), ReplayFault>
-    ensures { λ r. ⌜ r ≡ start-answer (G·ReadableGraph .meaning (now (graph .entry))) (limit (now (graph .entry))) t ⌝ }
+fn judge_start(some: bool, tables: u32, capacity: u32, t: Triangle) -> Result<(), ReplayFault>
+    ensures { λ r. ⌜ r ≡ triangle-answer some tables capacity t ⌝ }
 {
-    if has_joins(graph) {
+    if some {
         return Err(ReplayFault::HasJoins);
     }
-    if !(t.a < t.b && t.b < t.c && t.c < graph.tables()) {
+    if !(t.a < t.b && t.b < t.c && t.c < tables) {
         return Err(ReplayFault::NotTriangle);
     }
-    let capacity = graph.capacity();
     if capacity < 3 {
         at_step(0, Err(StoreFault::Full { capacity }))?;
     }
     Ok(())
 }
 
-/// Joins the three tables of a triangle that nothing stands against: the store refuses none of its joins.
-fn lay<G: EditableGraph>(graph: &mut G, t: Triangle) -> Result<(), ReplayFault>
-    requires { ⌜ start-answer (G·ReadableGraph .meaning (now graph)) (limit (now graph)) t ≡ Ok tt ⌝ }
-    ensures answer { λ r. ⌜ r ≡ Ok tt ⌝ }
-    ensures meant { λ _. ⌜ G·ReadableGraph .meaning (now (graph .exit)) ≡ started (G·ReadableGraph .meaning (now (graph .entry))) t .graph ⌝ }
+/// Joins the three tables of a triangle. Where nothing stands against it, the store refuses none of its joins.
+fn start<G: EditableGraph>(graph: &mut G, t: Triangle) -> Result<(), ReplayFault>
+    ensures answer { λ r. ⌜ r ≡ start-answer (G·ReadableGraph .meaning (now (graph .entry))) (limit (now (graph .entry))) t ⌝ }
+    ensures meant { λ r. ⌜ G·ReadableGraph .meaning (now (graph .exit)) ≡ left r (started (G·ReadableGraph .meaning (now (graph .entry))) t .graph) (G·ReadableGraph .meaning (now (graph .entry))) ⌝ }
     ensures same { λ _. ⌜ limit (now (graph .exit)) ≡ limit (now (graph .entry)) ⌝ }
 {
+    judge_start(has_joins(graph), graph.tables(), graph.capacity(), t)?;
     at_step(0, graph.join(t.a, t.b))?;
     at_step(0, graph.join(t.a, t.c))?;
     at_step(0, graph.join(t.b, t.c))?;
     Ok(())
 }
 
-/// The triangle, on flags that are all down.
-fn start<G: EditableGraph>(
-    graph: &mut G,
-    used: &mut [bool; 64],
-    t: Triangle,
-) -> Result<(), ReplayFault>
-    requires { ⌜ ((k : ℕ) → flagged (now used) k ≡ false) ⌝ }
-    ensures answer { λ r. ⌜ r ≡ start-answer (G·ReadableGraph .meaning (now (graph .entry))) (limit (now (graph .entry))) t ⌝ }
-    ensures meant { λ r. ⌜ under-way (G·ReadableGraph .meaning (now (graph .exit))) (now (used .exit)) ≡ left r (started (G·ReadableGraph .meaning (now (graph .entry))) t) (under-way (G·ReadableGraph .meaning (now (graph .entry))) (now (used .entry))) ⌝ }
-    ensures same { λ _. ⌜ limit (now (graph .exit)) ≡ limit (now (graph .entry)) ⌝ }
+/// The flags after the triangle: its three tables are in use.
+fn seated(t: Triangle) -> [bool; 64]
+    requires { ⌜ t .a < 64 ⌝ ∗ ⌜ t .b < 64 ⌝ ∗ ⌜ t .c < 64 ⌝ }
+    ensures { λ r. ⌜ ((x : ℕ) → flagged r x ≡ corners t x) ⌝ }
 {
-    judge_start(graph, t)?;
-    lay(graph, t)?;
+    let mut used = [false; 64];
     used[t.a as usize] = true;
     used[t.b as usize] = true;
     used[t.c as usize] = true;
-    Ok(())
+    used
 }
 
-/// 13 where a table that a step needs is not in use.
-fn in_use(used: &[bool; 64], step: usize, table: u32) -> Result<(), ReplayFault>
-    requires { ⌜ table < 64 ⌝ }
-    ensures { λ r. ⌜ r ≡ used-answer (flagged (now (used .entry))) step table ⌝ }
+/// 13 where a table that a step needs is not in use: `v`, or else `w`.
+fn in_use(used: &[bool; 64], step: usize, v: u32, w: u32) -> Result<(), ReplayFault>
+    requires { ⌜ v < 64 ⌝ ∗ ⌜ w < 64 ⌝ }
+    ensures { λ r. ⌜ r ≡ used-answer (flagged (now (used .entry))) step v w ⌝ }
 {
-    if used[table as usize] {
-        Ok(())
+    if !used[v as usize] {
+        Err(ReplayFault::NotInUse { step, table: v })
+    } else if !used[w as usize] {
+        Err(ReplayFault::NotInUse { step, table: w })
     } else {
-        Err(ReplayFault::NotInUse { step, table })
+        Ok(())
     }
 }
 
@@ -104,10 +96,10 @@ fn judge_edge(
     ensures { λ r. ⌜ r ≡ edge-used tables (flagged (now (used .entry))) step v w ⌝ }
 {
     if v < tables && w < tables && v != w {
-        in_use(used, step, v)?;
-        in_use(used, step, w)?;
+        in_use(used, step, v, w)
+    } else {
+        Ok(())
     }
-    Ok(())
 }
 
 /// An edge step.
@@ -146,30 +138,37 @@ fn named(tables: u32, u: u32, v: u32, w: u32) -> Result<(), StoreFault>
     }
 }
 
-/// All that can be wrong with a node step but 5.
-fn judge_node<G: ReadableGraph>(
-    graph: &G,
+/// What can be wrong with the tables of a node step: 1, 2, 12 and 13.
+fn judge_node(
     used: &[bool; 64],
+    tables: u32,
     step: usize,
     u: u32,
     v: u32,
     w: u32,
 ) -> Result<(), ReplayFault>
-    ensures { λ r. ⌜ r ≡ node-judged (meaning (now (graph .entry))) (flagged (now (used .entry))) step u v w ⌝ }
+    requires { ⌜ tables ≤ 64 ⌝ }
+    ensures { λ r. ⌜ r ≡ node-judged tables (flagged (now (used .entry))) step u v w ⌝ }
 {
-    at_step(step, named(graph.tables(), u, v, w))?;
+    at_step(step, named(tables, u, v, w))?;
     if used[u as usize] {
         return Err(ReplayFault::InUse { step, table: u });
     }
-    in_use(used, step, v)?;
-    in_use(used, step, w)?;
-    if !graph.joined(v, w) {
-        at_step(step, Err(StoreFault::NotJoined { a: v, b: w }))?;
-    }
-    Ok(())
+    in_use(used, step, v, w)
 }
 
-/// Puts table `u`, which has no joins, into the join of `v` and `w`. Only the first of the three edits can be
+/// 4 where the two tables are not joined.
+fn held<G: ReadableGraph>(graph: &G, v: u32, w: u32) -> Result<(), StoreFault>
+    ensures { λ r. ⌜ r ≡ held-answer (meaning (now (graph .entry))) v w ⌝ }
+{
+    if graph.joined(v, w) {
+        Ok(())
+    } else {
+        Err(StoreFault::NotJoined { a: v, b: w })
+    }
+}
+
+/// Puts table `u`, which has no joins, into the join of `v` and `w`. Of the three edits only the first can be
 /// refused, by 5, and then nothing has changed.
 fn splice<G: EditableGraph>(
     graph: &mut G,
@@ -181,11 +180,11 @@ fn splice<G: EditableGraph>(
     requires tables { ⌜ u < table-count (G·ReadableGraph .meaning (now graph)) ⌝ ∗ ⌜ v < table-count (G·ReadableGraph .meaning (now graph)) ⌝ ∗ ⌜ w < table-count (G·ReadableGraph .meaning (now graph)) ⌝ }
     requires apart { ⌜ (u ≡ v → ⊥) ⌝ ∗ ⌜ (u ≡ w → ⊥) ⌝ ∗ ⌜ (v ≡ w → ⊥) ⌝ }
     requires alone { ⌜ ((x : ℕ) → joins (G·ReadableGraph .meaning (now graph)) u x ≡ false) ⌝ }
-    requires held { ⌜ joins (G·ReadableGraph .meaning (now graph)) v w ≡ true ⌝ }
-    ensures answer { λ r. ⌜ r ≡ full-answer (G·ReadableGraph .meaning (now (graph .entry))) (limit (now (graph .entry))) step ⌝ }
+    ensures answer { λ r. ⌜ r ≡ splice-answer (G·ReadableGraph .meaning (now (graph .entry))) (limit (now (graph .entry))) step v w ⌝ }
     ensures meant { λ r. ⌜ G·ReadableGraph .meaning (now (graph .exit)) ≡ left r (spliced (G·ReadableGraph .meaning (now (graph .entry))) u v w) (G·ReadableGraph .meaning (now (graph .entry))) ⌝ }
     ensures same { λ _. ⌜ limit (now (graph .exit)) ≡ limit (now (graph .entry)) ⌝ }
 {
+    at_step(step, held(graph, v, w))?;
     at_step(step, graph.join(u, v))?;
     at_step(step, graph.unjoin(v, w))?;
     at_step(step, graph.join(u, w))?;
@@ -206,7 +205,7 @@ fn take_node<G: EditableGraph>(
     ensures meant { λ r. ⌜ under-way (G·ReadableGraph .meaning (now (graph .exit))) (now (used .exit)) ≡ left r (step-after (under-way (G·ReadableGraph .meaning (now (graph .entry))) (now (used .entry))) (Node u v w)) (under-way (G·ReadableGraph .meaning (now (graph .entry))) (now (used .entry))) ⌝ }
     ensures same { λ _. ⌜ limit (now (graph .exit)) ≡ limit (now (graph .entry)) ⌝ }
 {
-    judge_node(graph, used, step, u, v, w)?;
+    judge_node(used, graph.tables(), step, u, v, w)?;
     splice(graph, step, u, v, w)?;
     used[u as usize] = true;
     Ok(())
@@ -256,8 +255,8 @@ pub fn replay<G: EditableGraph>(
     ensures room { λ r. ⌜ Accepted-with-room (limit (now (graph .entry))) (G·ReadableGraph .meaning (now (graph .entry))) triangle (now (steps .entry)) r ⌝ }
     ensures refused { λ r. ⌜ Refused-at-first (limit (now (graph .entry))) (G·ReadableGraph .meaning (now (graph .entry))) triangle (now (steps .entry)) r (G·ReadableGraph .meaning (now (graph .exit))) ⌝ }
 {
-    let mut used = [false; 64];
-    start(graph, &mut used, triangle)?;
+    start(graph, triangle)?;
+    let mut used = seated(triangle);
     for (i, step) in steps.iter().enumerate() {
         take_step(graph, &mut used, i + 1, *step)?;
     }
