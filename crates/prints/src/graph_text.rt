@@ -62,14 +62,15 @@ pub fn write_graph<G: ReadableGraph>(graph: &G, out: &mut [u8]) -> Result<usize,
     // the J lines are the joins, each once, in rising order
     ensures listed { λ _. ⌜ Lists-joins (meaning (now (graph .entry))) (joins-of (meaning (now (graph .entry)))) ⌝ }
 {
+    let tables = graph.tables();
     let joins = count_joins(graph);
     let needed = 17 + 17 * joins;
     if out.len() < needed {
         return Err(TextFault::TooFew { needed });
     }
-    put_first_two(out, 0, b'G', graph.tables(), joins as u32);
+    put_first_two(out, 0, b'G', tables, joins as u32);
     let mut at = 17;
-    for v in 0..graph.tables() {
+    for v in 0..tables {
         at = put_row(graph, out, at, v);
     }
     Ok(needed)

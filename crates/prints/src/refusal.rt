@@ -6,7 +6,12 @@ use columns::write::put_three;
 use texts::fault::TextFault;
 
 /// Writes the X line of a refusal over the first bytes of `out`, and says how many they are. A refusal writes nothing.
-pub fn write_refusal(out: &mut [u8], number: u32, layer: u32, place: u32) -> Result<usize, TextFault>
+pub fn write_refusal(
+    out: &mut [u8],
+    number: u32,
+    layer: u32,
+    place: u32,
+) -> Result<usize, TextFault>
     ensures answer { λ r. ⌜ r ≡ refusal-answer number layer place (length (now (out .entry))) ⌝ }
     ensures written { λ _. ⌜ now (out .exit) ≡ refusal-written number layer place (now (out .entry)) ⌝ }
 {

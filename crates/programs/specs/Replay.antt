@@ -1,1 +1,62 @@
--- What the program `replay` prints.
+-- What the program `replay` prints, for the bytes read. `Replay-law` says in other words what this amounts to.
+--
+--   graph-of b            the meaning of a table of bits
+--   meant r               an answer with a table of bits, by its meaning
+--   replay-told text l    the text read as a list, into the records l, and played back into a new table of bits
+--   printed r             the graph's text, or the line of the refusal
+--   replay-prints text l  what is printed
+use mathlib.Core.List.{List}
+use Prim.Native.Nat.{ℕ}
+use lib.ListN.{take}
+use Rattle.std.specs.declared.result.Result.{Result}
+use Rattle.std.specs.declared.result.Result.the-variants.{Ok, Err}
+use Rattle.bits.specs.Rows.{rows-graph}
+use Rattle.bits.specs.declared.table.BitTable.{BitTable}
+use Rattle.construction.specs.Replay.{Played, replayed}
+use Rattle.construction.specs.declared.fault.ReplayFault.{ReplayFault}
+use Rattle.lines.specs.Text.{line-text}
+use Rattle.prints.specs.Graph-text.{graph-text}
+use Rattle.prints.specs.Refusal.{refusal-line}
+use Rattle.texts.specs.List-read.{list-read, end-at}
+use Rattle.texts.specs.declared.fault.TextFault.{TextFault}
+use Rattle.texts.specs.declared.list.Heading.{Heading}
+use Rattle.theory.specs.Graph.{Graph, no-joins, clamped}
+use Rattle.theory.specs.declared.step.Step.{Step}
+use Rattle.programs.specs.Fault.{fault-number, fault-layer, fault-place}
+use Rattle.programs.specs.declared.fault.ProgramFault.{ProgramFault}
+use Rattle.programs.specs.declared.fault.ProgramFault.the-variants.{Text, Replay}
+
+abbrev pub graph-of : BitTable → Graph
+graph-of b = rows-graph (b .count) (b .rows)
+
+abbrev pub meant : Result BitTable ProgramFault → Result Graph ProgramFault
+meant (Ok b) = Ok (graph-of b)
+meant (Err f) = Err f
+
+-- a refusal of the text, or what follows
+abbrev pub text-then : {X Y : Type 0} → Result X TextFault → (X → Result Y ProgramFault) → Result Y ProgramFault
+text-then (Ok x) f = f x
+text-then (Err e) f = Err (Text e)
+
+abbrev pub left : Result Unit ReplayFault → Graph → Result Graph ProgramFault
+left (Ok u) g = Ok g
+left (Err e) g = Err (Replay e)
+
+abbrev pub played : Heading → List Step → Result Graph ProgramFault
+played h records =
+    left (replayed 2016 (no-joins (clamped (h .tables))) (h .triangle) (take (h .steps) records) .told)
+      (replayed 2016 (no-joins (clamped (h .tables))) (h .triangle) (take (h .steps) records) .graph)
+
+-- the list, then nothing more, then the replay
+unfoldable pub replay-told : List ℕ → List Step → Result Graph ProgramFault
+replay-told text l =
+    text-then (list-read text 0 l .told) (λ h.
+    text-then (end-at text (h .end)) (λ _.
+    played h (list-read text 0 l .records)))
+
+abbrev pub printed : Result Graph ProgramFault → List ℕ
+printed (Ok g) = graph-text g
+printed (Err f) = line-text (refusal-line (fault-number f) (fault-layer f) (fault-place f))
+
+abbrev pub replay-prints : List ℕ → List Step → List ℕ
+replay-prints text l = printed (replay-told text l)
