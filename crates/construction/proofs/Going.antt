@@ -1,30 +1,26 @@
 -- What holds of a build all along: its graph is simple, the tables in use are tables, and every join is between tables in
 -- use. The triangle brings it about, each accepted step keeps it, and each accepted step adds one join.
 use mathlib.Core.Path.{_≡_, refl, sym, ap, _∙_}
-use mathlib.Core.Bool.{Bool, true, false, cond, not, _&&_, _||_}
-use mathlib.Core.List.{List, [], _∷_}
+use mathlib.Core.Bool.{Bool, true, false, not, _&&_, _||_}
 use mathlib.Core.Logic.{_⊎_, inl, inr, ⊎-elim}
-use Prim.Native.Nat.{ℕ, _+_, _≤_, _<_}
+use Prim.Native.Nat.{ℕ, _+_, _<_}
 use native.Mathlib.Omega.{arith}
-use lib.Dec.{eqb, ltb, leb}
-use Rattle.std.proofs.shelf.Ways.{tells}
+use lib.Dec.{eqb, leb}
 use Rattle.std.proofs.shelf.Tests.{or-cases, or-left, or-right, and-parts, eqb-true, eq-eqb, not-false, ltb-true, eqb-false, leb-false, lt-ltb, ne-eqb, lt-leb, both-ways}
-use Rattle.std.specs.declared.result.Result.{Result}
-use Rattle.std.specs.declared.result.Result.the-variants.{Ok, Err}
+use Rattle.std.specs.declared.result.Result.the-variants.{Ok}
 use Rattle.theory.specs.Graph.{Graph, Simple, same-pair, joined, joining, unjoining, is-table, size}
-use Rattle.theory.specs.Build.{Part, Allowed, after, triangle, with-table}
+use Rattle.theory.specs.Build.{Part, Allowed, after, with-table}
 use Rattle.theory.specs.declared.step.Step.{Step}
 use Rattle.theory.specs.declared.step.Step.the-variants.{Edge, Node}
 use Rattle.theory.specs.declared.step.Triangle.{Triangle}
 use Rattle.theory.proofs.Sizes.{joining-simple, unjoining-simple, joining-size, unjoining-size}
-use Rattle.graph.specs.First.{refused-first}
 use Rattle.graph.specs.declared.fault.StoreFault.the-variants.{UnknownTable, SameTable, AlreadyJoined, NotJoined, Full}
 use Rattle.construction.specs.Replay.{Building, started, step-answer, step-after}
 use Rattle.construction.specs.Inner.{building, Within-use, node-conditions, splice-conditions}
 use Rattle.construction.specs.declared.fault.ReplayFault.the-variants.{Store, NotInUse}
 use Rattle.construction.proofs.First.{past, front-ok}
 use Rattle.construction.proofs.Joins.{third-free}
-use Rattle.construction.proofs.Inner.{Startable, started-simple, Named, well-named, no-neighbours}
+use Rattle.construction.proofs.Inner.{Startable, started-simple, well-named, no-neighbours}
 
 pub record Going (b : Building) : Type 0 where
   pub simple : Simple (b .graph)

@@ -1,7 +1,7 @@
 -- The steps of the replay's inner functions, over plain values: what their answers and their graphs come to.
 use mathlib.Core.Path.{_≡_, refl, sym, ap, _∙_}
 use mathlib.Core.Bool.{Bool, true, false, cond, not, _&&_, _||_}
-use mathlib.Core.List.{List, [], _∷_, _++_}
+use mathlib.Core.List.{List, [], _∷_}
 use mathlib.Core.Logic.{⊎-elim}
 use Prim.Native.Nat.{ℕ, zero, suc, _+_, _-_, _≤_, _<_}
 use native.Mathlib.Omega.{arith}
@@ -12,9 +12,8 @@ use Rattle.std.proofs.shelf.Ways.{tells}
 use Rattle.std.proofs.shelf.Tests.{cases-bool, cases-eq, both-ways, not-false, ltb-true, ltb-false, eqb-false, and-parts, eq-eqb, ne-eqb, lt-ltb, lt-leb}
 use Rattle.std.specs.declared.result.Result.{Result}
 use Rattle.std.specs.declared.result.Result.the-variants.{Ok, Err}
-use Rattle.theory.specs.Graph.{Graph, Simple, same-pair, joined, joining, unjoining, is-table, size, some-join}
-use Rattle.theory.specs.Build.{triangle, with-table}
-use Rattle.theory.specs.declared.step.Step.{Step}
+use Rattle.theory.specs.Graph.{Graph, Simple, joined, joining, is-table, size, some-join}
+use Rattle.theory.specs.Build.{with-table}
 use Rattle.theory.specs.declared.step.Step.the-variants.{Edge, Node}
 use Rattle.theory.specs.declared.step.Triangle.{Triangle}
 use Rattle.theory.proofs.Sizes.{joining-simple, joining-size}
@@ -23,13 +22,13 @@ use Rattle.graph.specs.Store.{join-answer, unjoin-answer, after}
 use Rattle.graph.specs.declared.fault.StoreFault.{StoreFault}
 use Rattle.graph.specs.declared.fault.StoreFault.the-variants.{UnknownTable, SameTable, AlreadyJoined, NotJoined, Full}
 use Rattle.construction.specs.Fault.{marked}
-use Rattle.construction.specs.Replay.{Building, start-answer, started, step-answer, step-after, close-from}
-use Rattle.construction.specs.Inner.{flagged, building, under-way, left, Within-use, triangle-answer, corners, edge-used, node-conditions, node-judged, held-answer, splice-conditions, splice-answer, spliced}
+use Rattle.construction.specs.Replay.{start-answer, started, step-answer, step-after, close-from}
+use Rattle.construction.specs.Inner.{flagged, building, left, Within-use, triangle-answer, corners, edge-used, node-conditions, node-judged, held-answer, splice-conditions, splice-answer, spliced}
 use Rattle.construction.specs.declared.fault.AtStep.{AtStep}
 use Rattle.construction.specs.declared.fault.ReplayFault.{ReplayFault}
 use Rattle.construction.specs.declared.fault.ReplayFault.the-variants.{Store, HasJoins, NotTriangle, InUse, NotInUse, Unused}
 use Rattle.construction.proofs.First.{ok-err, past, first-on, first-off}
-use Rattle.construction.proofs.Joins.{all-clear, no-size, join-ok, join-room, third-ok}
+use Rattle.construction.proofs.Joins.{all-clear, no-size, join-ok}
 
 -- ---- a store's answer, passed on with its step
 
@@ -342,10 +341,10 @@ module _ (c k : ℕ) (m : Graph) (u v w : ℕ) where
       over false e = refl
 
   -- the first edit is refused
-  pub no-room : (m′ : Graph) (r : Result Unit StoreFault) (f : StoreFault) (final : Result Unit ReplayFault) → Simple m → u < m .tables → v < m .tables → (u ≡ v → ⊥)
+  pub no-room : (m′ : Graph) (r : Result Unit StoreFault) (f : StoreFault) (final : Result Unit ReplayFault) → u < m .tables → v < m .tables → (u ≡ v → ⊥)
       → m .adj u v ≡ false → m .adj v w ≡ true → r ≡ join-answer m c u v → m′ ≡ after r (joining m u v) m → r ≡ Err f → final ≡ carried k r
       → (final ≡ splice-answer m c k v w) × (m′ ≡ left final (spliced m u v w) m)
-  no-room m′ r f final s hu hv uv free held is meant broke gave = (
+  no-room m′ r f final hu hv uv free held is meant broke gave = (
     gave ∙ ap (carried k) is
         ∙ rw (lt-ltb u (m .tables) hu, lt-ltb v (m .tables) hv, ne-eqb u v uv, free, held) (over (leb c (size m))),
     as-before m m′ (joining m u v) r f meant broke ∙ sym (ap (λ z. left z (spliced m u v w) m) (gave ∙ ap (carried k) broke)),

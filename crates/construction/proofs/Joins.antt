@@ -1,16 +1,15 @@
 -- Whether a graph has joins, and when a join or an unjoin is accepted.
-use mathlib.Core.Path.{_≡_, refl, sym, ap, _∙_}
-use mathlib.Core.Bool.{Bool, true, false, cond, not, _&&_, _||_}
+use mathlib.Core.Path.{_≡_, sym, ap, _∙_}
+use mathlib.Core.Bool.{true, false, not, _&&_, _||_}
 use mathlib.Core.Logic.{⊎-elim}
 use Prim.Native.Nat.{ℕ, _+_, _≤_, _<_}
 use native.Mathlib.Omega.{arith}
-use lib.Dec.{eqb, ltb, leb}
+use lib.Dec.{eqb, leb}
 use Rattle.std.proofs.shelf.Ways.{tells}
-use Rattle.std.proofs.shelf.Tests.{cases-bool, cases-lt, both-ways, lt-ltb, ne-eqb, lt-leb, leb-false, not-false, eqb-true, or-right}
-use Rattle.std.specs.declared.result.Result.{Result}
-use Rattle.std.specs.declared.result.Result.the-variants.{Ok, Err}
-use Rattle.theory.specs.Graph.{Graph, Simple, same-pair, joined, joining, unjoining, no-joins, is-table, size, pairs, some-join}
-use Rattle.theory.proofs.Sizes.{pairs-same, no-joins-size, joining-simple, unjoining-simple, joining-size, unjoining-size}
+use Rattle.std.proofs.shelf.Tests.{cases-bool, both-ways, lt-ltb, ne-eqb, lt-leb, leb-false, not-false, eqb-true, or-right}
+use Rattle.std.specs.declared.result.Result.the-variants.{Ok}
+use Rattle.theory.specs.Graph.{Graph, Simple, same-pair, joined, joining, unjoining, is-table, size, some-join}
+use Rattle.theory.proofs.Sizes.{pairs-same, no-joins-size, joining-simple, joining-size, unjoining-size}
 use Rattle.graph.specs.Store.{join-answer, unjoin-answer}
 use Rattle.construction.proofs.First.{past}
 

@@ -7,12 +7,11 @@ use Prim.Native.Nat.{ℕ, zero, suc, _+_, _-_, _≤_, _<_}
 use native.Mathlib.Omega.{arith}
 use lib.Dec.{eqb, ltb, leb}
 use lib.ListN.{length, take, drop}
-use Rattle.std.proofs.shelf.Ways.{tells}
-use Rattle.std.proofs.shelf.Tests.{cases-bool, cases-eq, cases-lt, both-ways, ltb-true, lt-ltb, le-ltb, eq-eqb, or-left, or-right}
+use Rattle.std.proofs.shelf.Tests.{cases-bool, cases-eq, cases-lt, ltb-true, lt-ltb, le-ltb, eq-eqb, or-left, or-right}
 use Rattle.std.specs.declared.result.Result.{Result}
 use Rattle.std.specs.declared.result.Result.the-variants.{Ok, Err}
 use Rattle.theory.specs.Graph.{Graph, Simple, joined, is-table, table-count, size, some-join, no-joins}
-use Rattle.theory.specs.Build.{Part, Allowed, after, Builds, triangle, whole, Ascending, Legal-build}
+use Rattle.theory.specs.Build.{Part, Allowed, after, Builds, triangle, whole, Legal-build}
 use Rattle.theory.specs.Build.Builds.{done, next}
 use Rattle.theory.specs.declared.step.Step.{Step}
 use Rattle.theory.specs.declared.step.Step.the-variants.{Edge, Node}
@@ -27,7 +26,7 @@ use Rattle.construction.specs.declared.fault.ReplayFault.{ReplayFault}
 use Rattle.construction.specs.declared.fault.ReplayFault.the-variants.{Store, HasJoins, NotTriangle, InUse, NotInUse, Unused}
 use Rattle.construction.proofs.First.{ok-err}
 use Rattle.construction.proofs.Joins.{no-size}
-use Rattle.construction.proofs.Inner.{Startable, startable, started-size, same-building}
+use Rattle.construction.proofs.Inner.{Startable, startable, started-size}
 use Rattle.construction.proofs.Going.{Going, started-going, Fits, answer-fits, fits-answer, step-going, step-size, step-tables, part-of, part-after, fits-allowed, allowed-fits}
 use Rattle.construction.proofs.Plays.{begun, not-begun}
 

@@ -8,16 +8,16 @@
 --                                    allowed one after another and lead to the graph left, and the refusal's number is that
 --                                    of the first condition that holds
 use mathlib.Core.Path.{_≡_}
-use mathlib.Core.Bool.{Bool, true, false, not, _&&_, _||_}
+use mathlib.Core.Bool.{Bool, not, _&&_, _||_}
 use mathlib.Core.Logic.{_↔_}
 use mathlib.Core.List.{List, [], _∷_}
-use Prim.Native.Nat.{ℕ, _+_, _-_, _≤_, _<_}
+use Prim.Native.Nat.{ℕ, _+_, _-_, _≤_}
 use lib.Dec.{eqb, leb}
 use lib.ListN.{length, take, drop}
 use Rattle.std.specs.declared.result.Result.{Result}
 use Rattle.std.specs.declared.result.Result.the-variants.{Ok, Err}
 use Rattle.theory.specs.Graph.{Graph, joined, is-table, table-count, size, no-joins}
-use Rattle.theory.specs.Build.{Builds, Legal-build, triangle, Ascending}
+use Rattle.theory.specs.Build.{Builds, Legal-build, triangle}
 use Rattle.theory.specs.declared.step.Step.{Step}
 use Rattle.theory.specs.declared.step.Step.the-variants.{Edge, Node}
 use Rattle.theory.specs.declared.step.Triangle.{Triangle}

@@ -9,7 +9,7 @@
 --   close-answer b         14 with the lowest table not in use, or accepted
 --   steps-from cap k b l   steps l, the first of them the k-th, and the close
 --   replayed cap m t l     the whole replay: what it tells, and the graph that it leaves
-use mathlib.Core.Bool.{Bool, true, false, cond, not, _&&_}
+use mathlib.Core.Bool.{Bool, cond, not, _&&_}
 use mathlib.Core.List.{List, [], _∷_}
 use Prim.Native.Nat.{ℕ, zero, suc, _+_}
 use lib.Dec.{eqb, ltb, leb}

@@ -1,7 +1,11 @@
-//! A build list played back, step by step, into any editable graph.
+//! A build list played back into any editable graph: a triangle, steps one after another, and a look at whether all
+//! tables are in use. The tables in use are kept as flags; the joins are kept by the graph alone.
+//!
+//! The inner functions are small, one for each thing that is judged or done. Those that change something say in `answer`
+//! what they answer, in `meant` what they leave (a refusal changes nothing), and in `same` that the capacity stays.
 ghost use mathlib.Core.Path.{_≡_};
 ghost use mathlib.Core.Bool.{true, false};
-ghost use Prim.Native.Nat.{ℕ, _+_, _≤_, _<_};
+ghost use Prim.Native.Nat.{ℕ, _≤_, _<_};
 ghost use Rattle.theory.specs.Graph.{joined as joins, table-count, some-join};
 ghost use Rattle.theory.specs.declared.step.Step.the-variants.{Edge, Node};
 ghost use Rattle.construction.specs.Replay.{start-answer, started, step-answer, step-after, close-from, replayed};
@@ -191,7 +195,7 @@ fn splice<G: EditableGraph>(
     Ok(())
 }
 
-/// A node step.
+/// A node step. That every join is between tables in use tells that a table not in use has none.
 fn take_node<G: EditableGraph>(
     graph: &mut G,
     used: &mut [bool; 64],
@@ -229,7 +233,7 @@ fn take_step<G: EditableGraph>(
     }
 }
 
-/// The lowest table not in use, as 14.
+/// 14 with the lowest table that is not in use.
 fn close(used: &[bool; 64], tables: u32) -> Result<(), ReplayFault>
     requires { ⌜ tables ≤ 64 ⌝ }
     ensures { λ r. ⌜ r ≡ close-from 0 tables (flagged (now (used .entry))) ⌝ }
@@ -242,7 +246,15 @@ fn close(used: &[bool; 64], tables: u32) -> Result<(), ReplayFault>
     Ok(())
 }
 
-/// Plays a build list into a graph that has no joins, up to the first step that is refused.
+/// Plays a build list into a graph, up to the first refusal. A refused step leaves the graph as the steps before it made
+/// it, and a refused triangle leaves it as it was.
+///
+/// For every graph, triangle and list, `answer` says what is answered, `meant` what graph is left, and `same` that its
+/// capacity stays. For a graph that has no joins, the rest says what this amounts to:
+/// `accepted`, that the list is accepted exactly when it is a legal build of the graph that is left;
+/// `room`, that where the capacity suffices for all of its joins it is accepted exactly when it is a legal build of some
+/// graph of as many tables;
+/// `refused`, that a refused step is the first that is not allowed, and is refused for the first condition that it fails.
 pub fn replay<G: EditableGraph>(
     graph: &mut G,
     triangle: Triangle,

@@ -1,9 +1,10 @@
 -- A whole text written, or refused for want of room.
 --
---   room-yes, room-no        as many bytes as are needed are lent, or fewer
---   graph-laid               the G line and the lines of all rows, laid one after another, are the whole text of a graph
---   graph-full, graph-short  what `write_graph` answers, and the bytes lent afterwards
---   refusal-full             what `write_refusal` answers where it writes, and the bytes lent afterwards
+--   room-yes, room-no             as many bytes as are needed are lent, or fewer
+--   graph-laid                    the G line and the lines of all rows, laid one after another, are the whole text of a graph
+--   graph-few, graph-kept         a graph refused: the answer, and the bytes lent, which stay as they were
+--   graph-enough, graph-full      a graph written: the answer, and the bytes lent afterwards
+--   refusal-fits, refusal-full    the line of a refusal written: the answer, and the bytes lent afterwards
 use mathlib.Core.Path.{_≡_, sym, ap, ap₂, _∙_}
 use mathlib.Core.Bool.{false, _||_}
 use mathlib.Core.List.{List, _++_}

@@ -2,6 +2,7 @@
 --
 --   graph-of b            the meaning of a table of bits
 --   meant r               an answer with a table of bits, by its meaning
+--   left p                the graph that a replay leaves, or its refusal
 --   replay-told text l    the text read as a list, into the records l, and played back into a new table of bits
 --   printed r             the graph's text, or the line of the refusal
 --   replay-prints text l  what is printed
@@ -29,30 +30,36 @@ use Rattle.programs.specs.declared.fault.ProgramFault.the-variants.{Text, Repl
 abbrev pub graph-of : BitTable → Graph
 graph-of b = rows-graph (b .count) (b .rows)
 
-abbrev pub meant : Result BitTable ProgramFault → Result Graph ProgramFault
+abbrev pub meant : {F : Type 0} → Result BitTable F → Result Graph F
 meant (Ok b) = Ok (graph-of b)
 meant (Err f) = Err f
 
--- a refusal of the text, or what follows
+-- a refusal carried on, or what follows
 abbrev pub text-then : {X Y : Type 0} → Result X TextFault → (X → Result Y ProgramFault) → Result Y ProgramFault
 text-then (Ok x) f = f x
 text-then (Err e) f = Err (Text e)
 
-abbrev pub left : Result Unit ReplayFault → Graph → Result Graph ProgramFault
-left (Ok u) g = Ok g
-left (Err e) g = Err (Replay e)
+abbrev pub replay-last : {X : Type 0} → Result X ReplayFault → Result X ProgramFault
+replay-last (Ok x) = Ok x
+replay-last (Err e) = Err (Replay e)
 
-abbrev pub played : Heading → List Step → Result Graph ProgramFault
-played h records =
-    left (replayed 2016 (no-joins (clamped (h .tables))) (h .triangle) (take (h .steps) records) .told)
-      (replayed 2016 (no-joins (clamped (h .tables))) (h .triangle) (take (h .steps) records) .graph)
+-- the graph that a replay leaves, where it is accepted
+abbrev pub left-by : Result Unit ReplayFault → Graph → Result Graph ReplayFault
+left-by (Ok u) g = Ok g
+left-by (Err e) g = Err e
+
+abbrev pub left : Played → Result Graph ReplayFault
+left p = left-by (p .told) (p .graph)
+
+abbrev pub list-played : Heading → List Step → Played
+list-played h records = replayed 2016 (no-joins (clamped (h .tables))) (h .triangle) (take (h .steps) records)
 
 -- the list, then nothing more, then the replay
 unfoldable pub replay-told : List ℕ → List Step → Result Graph ProgramFault
 replay-told text l =
     text-then (list-read text 0 l .told) (λ h.
     text-then (end-at text (h .end)) (λ _.
-    played h (list-read text 0 l .records)))
+    replay-last (left (list-played h (list-read text 0 l .records)))))
 
 abbrev pub printed : Result Graph ProgramFault → List ℕ
 printed (Ok g) = graph-text g

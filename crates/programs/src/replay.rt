@@ -3,24 +3,40 @@ ghost use mathlib.Core.Path.{_≡_};
 ghost use Prim.Native.Nat.{ℕ, _+_, _≤_};
 ghost use lib.ListN.{length, take};
 ghost use Rattle.std.specs.Vec.{refused};
+ghost use Rattle.theory.specs.Graph.{no-joins, clamped};
+ghost use Rattle.construction.specs.Replay.{replayed};
 ghost use Rattle.columns.specs.Laid.{laid};
+ghost use Rattle.lines.specs.Text.{line-text};
+ghost use Rattle.prints.specs.Graph-text.{graph-text};
+ghost use Rattle.prints.specs.Refusal.{refusal-line};
 ghost use Rattle.texts.specs.List-read.{list-read};
-ghost use Rattle.programs.specs.Fault.{fault-place};
-ghost use Rattle.programs.specs.Replay.{meant, replay-told, replay-prints};
+ghost use Rattle.programs.specs.Fault.{fault-number, fault-layer, fault-place, replay-place};
+ghost use Rattle.programs.specs.Replay.{graph-of, meant, left, replay-told, replay-prints};
 ghost use Rattle.programs.specs.Replay-law.{Replays};
 use bits::table::BitTable;
 use bits::table::BitTableEditable;
 use bits::table::BitTableReadable;
+use construction::fault::ReplayFault;
 use construction::replay::replay;
 use prints::graph_text::write_graph;
 use prints::refusal::write_refusal;
 use super::fault::ProgramFault;
 use super::fault::ProgramFaultFromReplay;
 use super::fault::ProgramFaultFromText;
-use super::workspace::Workspace;
 use texts::list::check_end;
 use texts::list::read_list;
 use theory::step::Step;
+use theory::step::Triangle;
+
+/// The graph that a triangle and steps build, in a new table of bits.
+fn play(tables: u32, triangle: Triangle, steps: &[Step]) -> Result<BitTable, ReplayFault>
+    ensures answer { λ r. ⌜ meant r ≡ left (replayed 2016 (no-joins (clamped tables)) triangle (now (steps .entry))) ⌝ }
+    ensures near { λ r. ⌜ refused r (λ f. replay-place f ≤ 64 + length (now (steps .entry))) ⌝ }
+{
+    let mut graph = BitTable::new(tables);
+    replay(&mut graph, triangle, steps)?;
+    Ok(graph)
+}
 
 /// The graph that a list text builds.
 fn build(text: &[u8], steps: &mut [Step]) -> Result<BitTable, ProgramFault>
@@ -31,29 +47,47 @@ fn build(text: &[u8], steps: &mut [Step]) -> Result<BitTable, ProgramFault>
 {
     let list = read_list(text, 0, steps)?;
     check_end(text, list.end)?;
-    let mut graph = BitTable::new(list.tables);
-    replay(&mut graph, list.triangle, &steps[0..list.steps])?;
+    let count = list.steps;
+    let graph = play(list.tables, list.triangle, &steps[0..count])?;
     Ok(graph)
+}
+
+/// A graph's text, laid over the text.
+fn lay_graph(graph: &BitTable, text: &mut [u8; 36465]) -> usize
+    ensures count { λ r. ⌜ r ≡ length (graph-text (graph-of (now (graph .entry)))) ⌝ }
+    ensures laid { λ _. ⌜ now (text .exit) ≡ laid (now (text .entry)) 0 (graph-text (graph-of (now (graph .entry)))) ⌝ }
+{
+    match write_graph(graph, text) {
+        Ok(n) => n,
+        Err(_) => unreachable(),
+    }
+}
+
+/// The line of a refusal, laid over the text.
+fn lay_refusal(fault: ProgramFault, text: &mut [u8; 36465]) -> usize
+    requires { ⌜ fault-place fault ≤ 99999 ⌝ }
+    ensures count { λ r. ⌜ r ≡ 17 ⌝ }
+    ensures laid { λ _. ⌜ now (text .exit) ≡ laid (now (text .entry)) 0 (line-text (refusal-line (fault-number fault) (fault-layer fault) (fault-place fault))) ⌝ }
+{
+    match write_refusal(text, fault.number(), fault.layer(), fault.place() as u32) {
+        Ok(n) => n,
+        Err(_) => unreachable(),
+    }
 }
 
 /// Takes the first `len` bytes of the text as what was read, and lays what is to be printed over the text's first bytes; the
 /// answer is how many these are.
-pub fn replay_text(work: &mut Workspace, len: usize) -> usize
-    ensures count { λ r. ⌜ r ≡ length (replay-prints (take len (now (work .entry) .text)) (now (work .entry) .steps)) ⌝ }
+pub fn replay_text(text: &mut [u8; 36465], len: usize, steps: &mut [Step; 2013]) -> usize
+    ensures count { λ r. ⌜ r ≡ length (replay-prints (take len (now (text .entry))) (now (steps .entry))) ⌝ }
     // bytes past what is printed keep their contents
-    ensures text { λ _. ⌜ now (work .exit) .text ≡ laid (now (work .entry) .text) 0 (replay-prints (take len (now (work .entry) .text)) (now (work .entry) .steps)) ⌝ }
-    ensures steps { λ _. ⌜ now (work .exit) .steps ≡ list-read (take len (now (work .entry) .text)) 0 (now (work .entry) .steps) .records ⌝ }
-    ensures marks { λ _. ⌜ now (work .exit) .marks ≡ now (work .entry) .marks ⌝ }
+    ensures laid { λ _. ⌜ now (text .exit) ≡ laid (now (text .entry)) 0 (replay-prints (take len (now (text .entry))) (now (steps .entry))) ⌝ }
+    ensures filled { λ _. ⌜ now (steps .exit) ≡ list-read (take len (now (text .entry))) 0 (now (steps .entry)) .records ⌝ }
     // a graph is printed exactly where the text read is that of a legal build, and then the graph that it builds
-    ensures law { λ r. ⌜ Replays (take len (now (work .entry) .text)) (take r (now (work .exit) .text)) ⌝ }
+    ensures law { λ r. ⌜ Replays (take len (now (text .entry))) (take r (now (text .exit))) ⌝ }
 {
     let len = if len < 36465 { len } else { 36465 };
-    let written = match build(&work.text[0..len], &mut work.steps) {
-        Ok(graph) => write_graph(&graph, &mut work.text),
-        Err(fault) => write_refusal(&mut work.text, fault.number(), fault.layer(), fault.place() as u32),
-    };
-    match written {
-        Ok(n) => n,
-        Err(_) => 0,
+    match build(&text[0..len], steps) {
+        Ok(graph) => lay_graph(&graph, text),
+        Err(fault) => lay_refusal(fault, text),
     }
 }

@@ -45,6 +45,6 @@ fn main(rt: LibcRuntime) -> io::Result<()> {
     let mut input = rt.stdin();
     let len = read_whole(&mut input, &mut work.text)?;
     drop_rest(&mut input)?;
-    let n = replay_text(&mut work, len);
+    let n = replay_text(&mut work.text, len, &mut work.steps);
     rt.stdout().write_all(&work.text[0..n])
 }

@@ -1,3 +1,4 @@
+-- The invariant of the close.
 use mathlib.Core.Path.{_≡_}
 use Prim.Native.Nat.{_-_}
 use Rattle.construction.specs.Replay.{close-from}

@@ -1,3 +1,4 @@
+-- The invariant of the look for a join: the tables looked at have none.
 use mathlib.Core.Path.{_≡_}
 use mathlib.Core.Bool.{false}
 use Prim.Native.Nat.{ℕ, _<_}

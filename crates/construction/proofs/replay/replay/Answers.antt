@@ -1,9 +1,10 @@
-use mathlib.Core.Path.{_≡_, refl, sym, ap, _∙_}
+-- The whole replay: the three ways out, each with what is told and left, and the laws of that.
+use mathlib.Core.Path.{refl, sym, ap, _∙_}
 use Prim.Native.Nat.{_+_, _<_, _≤_}
 use native.Mathlib.Omega.{arith}
 use Rattle.std.proofs.shelf.Results.{err-from-errBy}
 use Rattle.theory.specs.declared.step.Step.the-variants.{Edge}
-use Rattle.construction.specs.Replay.{Played, steps-from, replayed, close-from}
+use Rattle.construction.specs.Replay.{Played, steps-from, close-from}
 use Rattle.construction.specs.Inner.{flagged, under-way}
 use Rattle.construction.proofs.Inner.{startable}
 use Rattle.construction.proofs.Plays.{start-off, entered, entered-going, step-on, step-off, still-going, ends}

@@ -1,3 +1,4 @@
+-- The invariant of the steps.
 use mathlib.Core.Path.{_≡_}
 use Prim.Native.Nat.{_+_}
 use lib.ListN.{drop}

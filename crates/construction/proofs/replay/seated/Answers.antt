@@ -1,3 +1,4 @@
+-- The flags after the triangle: all down, then three up.
 use mathlib.Core.Bool.{true, false}
 use Prim.Native.Nat.{_<_}
 use native.Mathlib.Omega.{arith}

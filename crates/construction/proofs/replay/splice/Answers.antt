@@ -1,4 +1,5 @@
-use mathlib.Core.Path.{_≡_, refl, sym, ap, _∙_}
+-- The joins of a node step: refused for want of the join or of room, and else made all three.
+use mathlib.Core.Path.{refl, sym, ap, _∙_}
 use Rattle.std.proofs.shelf.Results.{err-from-errBy}
 use Rattle.theory.specs.Graph.{joining, unjoining}
 use Rattle.construction.proofs.Joins.{join-room, second-ok, third-ok}
@@ -30,7 +31,7 @@ returns-in-Break-at-step-2 g c =
     let held = is-held m (c .args .v) (c .args .w)
     (sym (c .held .ensures) ∙ passed k (c .held .result) (c .at-step .result) (c .at-step .ensures) (c .in-Continue-at-step .field-0) (c .in-Continue-at-step .was tt)) in
     let both = no-room n k m (c .args .u) (c .args .v) (c .args .w) (g .G·ReadableGraph .meaning (c .join .last .self)) (c .join .result) (a .fault)
-    (c .from-residual-in-Break-at-step-2 .result) (g .G·ReadableGraph .simple (c .args .graph .now)) (c .pre .tables .0) (c .pre .tables .1 .0) (c .pre .apart .0)
+    (c .from-residual-in-Break-at-step-2 .result) (c .pre .tables .0) (c .pre .tables .1 .0) (c .pre .apart .0)
     (c .pre .alone (c .args .v)) held (c .join .ensures .answer) (c .join .ensures .meant)
     (refused k (c .join .result) (c .at-step-2 .result) (c .at-step-2 .ensures) a (c .in-Break-at-step-2 .was tt))
     (passed-on k (c .join .result) (c .at-step-2 .result) (c .at-step-2 .ensures) a (p .0) (c .from-residual-in-Break-at-step-2 .result)

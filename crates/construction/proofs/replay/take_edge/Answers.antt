@@ -1,4 +1,5 @@
-use mathlib.Core.Path.{_≡_, refl, sym, ap, _∙_}
+-- An edge step: refused by the flags, refused by the store, or taken.
+use mathlib.Core.Path.{refl}
 use Rattle.std.proofs.shelf.Results.{err-from-errBy}
 use Rattle.construction.specs.Inner.{flagged}
 use Rattle.construction.proofs.Inner.{passed, refused, passed-on, edge-judged, edge-carried, edge-refused, edge-taken}
