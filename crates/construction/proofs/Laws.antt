@@ -361,7 +361,7 @@ start-step c m t f e =
     ((some-join m, HasJoins) ∷ (not (ltb (t .a) (t .b) && (ltb (t .b) (t .c) && is-table m (t .c))), NotTriangle) ∷ (ltb c 3, Store 0 (Full c)) ∷ [])
     (refl, (refl, (refl, tt))) f e
 
-replayed-tables : (c : ℕ) (m : Graph) (t : Triangle) (l : List Step) → replayed c m t l .graph .tables ≡ m .tables
+pub replayed-tables : (c : ℕ) (m : Graph) (t : Triangle) (l : List Step) → replayed c m t l .graph .tables ≡ m .tables
 replayed-tables c m t l =
     ⊎-elim
     (λ ok. ap (λ p. graph-of p .tables) (begun c m t l ok) ∙ played-tables c 1 (started m t) l)

@@ -1,3 +1,5 @@
 pub mod Prints
 pub mod Near
 pub mod Told
+pub mod Law
+pub mod Whole

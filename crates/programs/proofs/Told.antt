@@ -3,12 +3,13 @@
 --   clamped-simple         a new graph is simple, whatever number of tables was asked for
 --   play-off               a replay that is refused
 --   list-off, end-off      a text that is refused: the list, or what follows it
+--   played-as, part-near   the replay of the records that the list fills
 --   play-last              a text that is accepted, and the replay of its list
 use mathlib.Core.Path.{_≡_, refl, sym, ap, subst, _∙_}
 use mathlib.Core.List.{List}
 use Prim.Native.Nat.{ℕ, _+_, _-_, _≤_}
 use native.Mathlib.Omega.{arith}
-use lib.ListN.{length, take}
+use lib.ListN.{length, take, length-take}
 use Rattle.std.specs.Vec.{refused}
 use Rattle.std.specs.declared.result.Result.{Result}
 use Rattle.std.specs.declared.result.Result.the-variants.{Ok, Err}
@@ -73,3 +74,14 @@ pub carried : (r : Result BitTable ReplayFault) (final : Result BitTable Program
     → meant final ≡ replay-last (meant r)
 carried r final f x was gave is =
     ap (λ (q : Result BitTable ProgramFault). meant q) (gave ∙ ap (λ e. Err e) is) ∙ sym (ap (λ (q : Result BitTable ReplayFault). replay-last (meant q)) was)
+
+-- the replay of the records that the list fills
+pub played-as : (h : Heading) (records after : List Step) (r : Result Graph ReplayFault) → after ≡ records
+    → r ≡ left (replayed 2016 (no-joins (clamped (h .tables))) (h .triangle) (take (h .steps - 0) after)) → r ≡ left (list-played h records)
+played-as h records after r same e =
+    e
+    ∙ ap (λ k. left (replayed 2016 (no-joins (clamped (h .tables))) (h .triangle) (take k after))) (omega arith)
+    ∙ ap (λ x. left (list-played h x)) same
+
+pub part-near : (k : ℕ) (l : List Step) (p : ℕ) → length l ≤ 2013 → p ≤ 64 + length (take (k - 0) l) → p ≤ 99999
+part-near k l p few near = let cut = length-take (k - 0) l in omega arith

@@ -1,3 +1,4 @@
 pub mod Fault
 pub mod Replay
 pub mod Replay-law
+pub mod Done

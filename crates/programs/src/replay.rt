@@ -12,7 +12,7 @@ ghost use Rattle.prints.specs.Refusal.{refusal-line};
 ghost use Rattle.texts.specs.List-read.{list-read};
 ghost use Rattle.programs.specs.Fault.{fault-number, fault-layer, fault-place, replay-place};
 ghost use Rattle.programs.specs.Replay.{graph-of, meant, left, replay-told, replay-prints};
-ghost use Rattle.programs.specs.Replay-law.{Replays};
+ghost use Rattle.programs.specs.Done.{Done};
 use bits::table::BitTable;
 use bits::table::BitTableEditable;
 use bits::table::BitTableReadable;
@@ -75,19 +75,27 @@ fn lay_refusal(fault: ProgramFault, text: &mut [u8; 36465]) -> usize
     }
 }
 
-/// Takes the first `len` bytes of the text as what was read, and lays what is to be printed over the text's first bytes; the
-/// answer is how many these are.
-pub fn replay_text(text: &mut [u8; 36465], len: usize, steps: &mut [Step; 2013]) -> usize
-    ensures count { λ r. ⌜ r ≡ length (replay-prints (take len (now (text .entry))) (now (steps .entry))) ⌝ }
-    // bytes past what is printed keep their contents
-    ensures laid { λ _. ⌜ now (text .exit) ≡ laid (now (text .entry)) 0 (replay-prints (take len (now (text .entry))) (now (steps .entry))) ⌝ }
-    ensures filled { λ _. ⌜ now (steps .exit) ≡ list-read (take len (now (text .entry))) 0 (now (steps .entry)) .records ⌝ }
-    // a graph is printed exactly where the text read is that of a legal build, and then the graph that it builds
-    ensures law { λ r. ⌜ Replays (take len (now (text .entry))) (take r (now (text .exit))) ⌝ }
+/// The same as `replay_text`, where no more bytes were read than the text has.
+fn replay_part(text: &mut [u8; 36465], len: usize, steps: &mut [Step; 2013]) -> usize
+    requires { ⌜ len ≤ 36465 ⌝ }
+    ensures { λ r. ⌜ Done (now (text .entry)) len (now (steps .entry)) r (now (text .exit)) (now (steps .exit)) ⌝ }
 {
-    let len = if len < 36465 { len } else { 36465 };
     match build(&text[0..len], steps) {
         Ok(graph) => lay_graph(&graph, text),
         Err(fault) => lay_refusal(fault, text),
+    }
+}
+
+/// Takes the first `len` bytes of the text as what was read, and lays what is to be printed over the text's first bytes; the
+/// answer is how many these are.
+pub fn replay_text(text: &mut [u8; 36465], len: usize, steps: &mut [Step; 2013]) -> usize
+    // the bytes printed, every byte of the text, and every step record, for whatever was read; in other words: a graph is
+    // printed exactly where the text read is that of a legal build, and then the graph that it builds
+    ensures { λ r. ⌜ Done (now (text .entry)) len (now (steps .entry)) r (now (text .exit)) (now (steps .exit)) ⌝ }
+{
+    if len < 36465 {
+        replay_part(text, len, steps)
+    } else {
+        replay_part(text, 36465, steps)
     }
 }
