@@ -14,7 +14,7 @@ use Rattle.lines.proofs.Bytes.{line-length}
 use Rattle.prints.specs.Graph-text.{graph-text}
 use Rattle.prints.specs.Refusal.{refusal-line}
 use Rattle.texts.specs.List-read.{list-read}
-use Rattle.texts.proofs.Laying.{laid-whole}
+use Rattle.texts.proofs.Laying.{laid-whole, laid-length}
 use Rattle.theory.specs.Graph.{Graph, Simple, size}
 use Rattle.theory.specs.declared.step.Step.{Step}
 use Rattle.theory.proofs.Sizes.{size-most}
@@ -38,6 +38,7 @@ module _ (text : List ℕ) (len : ℕ) (part : List ℕ) (steps : List Step) (r 
       let same : out ≡ replay-prints (take len text) steps = prints ∙ ap printed (answer ∙ ap (λ p. replay-told p steps) is-part) in
       record {
         count = count ∙ ap length same;
+        within = let long = ap length lies ∙ laid-length text 0 out in omega arith;
         lies = lies ∙ ap (laid text 0) same;
         filled = filled ∙ ap (λ p. list-read p 0 steps .records) is-part;
         law = subst (λ p. Replays p (take r text′)) is-part (subst (Replays part) (sym (ap (take r) lies ∙ front text out r count room)) law);
@@ -63,6 +64,7 @@ done-all text len most steps r text′ steps′ h k d =
     let same : take most text ≡ take len text = take-all most text h ∙ sym (take-all len text (omega arith)) in
     record {
       count = d .count ∙ ap (λ p. length (replay-prints p steps)) same;
+      within = d .within;
       lies = d .lies ∙ ap (λ p. laid text 0 (replay-prints p steps)) same;
       filled = d .filled ∙ ap (λ p. list-read p 0 steps .records) same;
       law = subst (λ p. Replays p (take r text′)) same (d .law);

@@ -1,7 +1,7 @@
 -- What a call of the program `replay` leaves, whole.
 use mathlib.Core.Path.{_≡_}
 use mathlib.Core.List.{List}
-use Prim.Native.Nat.{ℕ}
+use Prim.Native.Nat.{ℕ, _≤_}
 use lib.ListN.{length, take}
 use Rattle.columns.specs.Laid.{laid}
 use Rattle.texts.specs.List-read.{list-read}
@@ -13,6 +13,8 @@ use Rattle.programs.specs.Replay-law.{Replays}
 pub record Done (text : List ℕ) (len : ℕ) (steps : List Step) (r : ℕ) (text′ : List ℕ) (steps′ : List Step) : Type 0 where
   -- the answer is how many bytes are printed
   pub count : r ≡ length (replay-prints (take len text) steps)
+  -- they are all in the text
+  pub within : r ≤ length text′
   -- they are laid over the text's first bytes, and bytes past them keep their contents
   pub lies : text′ ≡ laid text 0 (replay-prints (take len text) steps)
   -- the steps read fill the first records, and records past them keep their contents

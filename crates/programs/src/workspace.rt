@@ -9,6 +9,7 @@ pub struct Mark {
 }
 
 /// What a program reads is held in `text`, and what it prints is written over it.
+#[derive(Drop)]
 pub struct Workspace {
     /// The largest query text has 36,448 bytes, and 17 bytes after a text are judged.
     pub text: [u8; 36465],

@@ -1,0 +1,36 @@
+//! Reading standard input whole. What a stream gives no contract can say; here is only that a count stays within its buffer.
+ghost use Prim.Native.Nat.{_≤_};
+ghost use lib.ListN.{length};
+ghost use Rattle.std.specs.Vec.{made};
+use std::io;
+use std::io::Read;
+
+/// Fills the buffer from the input, up to its end or the buffer's.
+pub fn read_whole<R: Read>(input: &mut R, buffer: &mut [u8]) -> io::Result<usize>
+    ensures { λ r. ⌜ made r (λ n. n ≤ length (now (buffer .exit))) ⌝ }
+{
+    let mut len = 0;
+    for _turn in 0..1000000 {
+        if len >= buffer.len() {
+            break;
+        }
+        let n = input.read(&mut buffer[len..])?;
+        if n == 0 {
+            break;
+        }
+        len += n;
+    }
+    Ok(len)
+}
+
+/// Reads what is left of the input, and drops it.
+pub fn drop_rest<R: Read>(input: &mut R) -> io::Result<()> {
+    let mut scratch = [0u8; 4096];
+    for _turn in 0..1000000000 {
+        let n = input.read(&mut scratch)?;
+        if n == 0 {
+            break;
+        }
+    }
+    Ok(())
+}
