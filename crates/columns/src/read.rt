@@ -40,6 +40,11 @@ fn number(text: &[u8], at: usize) -> Result<u32, usize>
     requires { ⌜ at ≤ length (now text) + 16 ⌝ }
     ensures { λ r. ⌜ r ≡ places-at (now (text .entry)) at ⌝ }
 {
+    // most numbers have at most two digits
+    if at + 5 <= text.len() && text[at] == 32 && text[at + 1] == 32 && text[at + 2] == 32 {
+        let v = place(text, at + 3, 1, 0)?;
+        return place(text, at + 4, 0, v);
+    }
     let v = place(text, at, 4, 0)?;
     let v = place(text, at + 1, 3, v)?;
     let v = place(text, at + 2, 2, v)?;
@@ -98,6 +103,15 @@ fn unused(text: &[u8], at: usize) -> Result<(), usize>
     requires { ⌜ at ≤ length (now text) + 16 ⌝ }
     ensures { λ r. ⌜ r ≡ blanks-at (now (text .entry)) at ⌝ }
 {
+    if at + 5 <= text.len()
+        && text[at] == 32
+        && text[at + 1] == 32
+        && text[at + 2] == 32
+        && text[at + 3] == 32
+        && text[at + 4] == 32
+    {
+        return Ok(());
+    }
     blank(text, at)?;
     blank(text, at + 1)?;
     blank(text, at + 2)?;
