@@ -403,6 +403,17 @@ module _ (c : ℕ) (m : Graph) (t : Triangle) (l : List Step) (s : Simple m) whe
       absurd (omega arith))
       (cases-answer (start-answer m c t))
 
+  -- each step adds one join to the three of the triangle
+  pub accepted-size : m ≡ no-joins (table-count m) → replayed c m t l .told ≡ Ok tt → size (replayed c m t l .graph) ≡ 3 + length l
+  accepted-size none e =
+      let legal = accepted-legal none e in
+      let h : Startable m 3 t = legal-startable 3 m (replayed c m t l .graph) t l none (replayed-tables c m t l) (omega arith) legal in
+      let built = subst (λ p. Builds p l (whole (replayed c m t l .graph))) (sym (started-part m t none)) (legal .1) in
+      let three : size (started m t .graph) ≡ 3 = started-size m 3 t s h in
+      let many : size (replayed c m t l .graph) ≡ size (started m t .graph) + length l
+          = built-size l (started m t) (replayed c m t l .graph) (replayed-tables c m t l) (started-going m 3 t s h) built in
+      omega arith
+
   room-accepted : m ≡ no-joins (table-count m) → 3 + length l ≤ c → (h : Graph) → table-count h ≡ table-count m → Legal-build h t l → replayed c m t l .told ≡ Ok tt
   room-accepted none room g n legal =
       let h : Startable m c t = legal-startable c m g t l none n (omega arith) legal in

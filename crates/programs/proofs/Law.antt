@@ -1,6 +1,7 @@
 -- A graph is printed exactly where the text read is that of a legal build.
 --
 --   law-built     an accepted text is the text of a legal build of the graph told
+--   built-length  the graph's text is 34 bytes longer than the list's
 --   law-refused   a refused text is the text of no legal build
 use mathlib.Core.Path.{_≡_, refl, sym, ap, subst, _∙_}
 use mathlib.Core.Bool.{Bool, true, false, cond}
@@ -16,10 +17,10 @@ use Rattle.std.proofs.shelf.Tests.{eqb-true, eq-eqb}
 use Rattle.std.proofs.shelf.Ways.{tells}
 use Rattle.construction.specs.Replay.{Played, replayed}
 use Rattle.construction.specs.declared.fault.ReplayFault.{ReplayFault}
-use Rattle.construction.proofs.Laws.{accepted-exactly, accepted-with-room, replayed-tables}
+use Rattle.construction.proofs.Laws.{accepted-exactly, accepted-with-room, accepted-size, replayed-tables}
 use Rattle.lines.specs.Read.{line-at}
 use Rattle.lines.specs.Text.{line-text}
-use Rattle.prints.specs.Graph-text.{graph-text}
+use Rattle.prints.specs.Graph-text.{graph-text, graph-length}
 use Rattle.prints.specs.Refusal.{refusal-line}
 use Rattle.texts.specs.List-law.{Same-text, List-stands}
 use Rattle.texts.specs.List-read.{list-read, end-at, end-of, List-told}
@@ -31,7 +32,7 @@ use Rattle.texts.proofs.Back.{list-reads-back}
 use Rattle.texts.proofs.Lists.{same-text}
 use Rattle.texts.proofs.Stands.{list-text-length}
 use Rattle.theory.specs.Build.{Legal-build}
-use Rattle.theory.specs.Graph.{Graph, Simple, table-count, no-joins, clamped}
+use Rattle.theory.specs.Graph.{Graph, Simple, table-count, size, no-joins, clamped}
 use Rattle.theory.specs.declared.step.Step.{Step}
 use Rattle.theory.specs.declared.step.Triangle.{Triangle}
 use Rattle.programs.specs.Fault.{fault-number, fault-layer, fault-place}
@@ -102,6 +103,19 @@ law-built text l g simple e =
       legal = accepted-exactly 2016 m (h .triangle) steps (clamped-simple (h .tables)) (replayed 2016 m (h .triangle) steps .told) g refl (sym (a .left-graph)) refl .0 (a .told);
       prints = refl;
     }
+
+-- a graph's text has 34 bytes more than the list's
+pub built-length : (text : List ℕ) (l : List Step) (g : Graph) → Simple g → replay-told text l ≡ Ok g → graph-length g ≡ length text + 34
+unfolding law-built accepted
+built-length text l g simple e =
+    let a = accepted text l g e in
+    let h = a .heading in
+    let b = law-built text l g simple e in
+    let m = no-joins (clamped (h .tables)) in
+    let many : size g ≡ 3 + length (b .steps) =
+        sym (ap size (a .left-graph)) ∙ accepted-size 2016 m (h .triangle) (b .steps) (clamped-simple (h .tables)) refl (a .told) in
+    let long : length text ≡ list-length (b .steps) = ap length (b .reads) ∙ list-text-length (table-count g) (b .triangle) (b .steps) in
+    omega arith
 
 -- the text of a legal build is accepted
 module _ (text : List ℕ) (l : List Step) (room : 2013 ≤ length l) (g : Graph) (t : Triangle) (s : List Step) (able : Listable (table-count g) t s)

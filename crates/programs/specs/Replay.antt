@@ -5,10 +5,14 @@
 --   left p                the graph that a replay leaves, or its refusal
 --   replay-told text l    the text read as a list, into the records l, and played back into a new table of bits
 --   printed r             the graph's text, or the line of the refusal
---   replay-prints text l  what is printed
-use mathlib.Core.List.{List}
-use Prim.Native.Nat.{ℕ}
-use lib.ListN.{take}
+--   shown b r             what is printed into b bytes: 9 for a graph that does not fit, nothing where no line fits
+--   looked-at text len    of a text into which `len` bytes were read, what is looked at
+--   replay-prints text len l   what is printed
+use mathlib.Core.Bool.{cond}
+use mathlib.Core.List.{List, []}
+use Prim.Native.Nat.{ℕ, min}
+use lib.Dec.{ltb}
+use lib.ListN.{length, take}
 use Rattle.std.specs.declared.result.Result.{Result}
 use Rattle.std.specs.declared.result.Result.the-variants.{Ok, Err}
 use Rattle.bits.specs.Rows.{rows-graph}
@@ -16,10 +20,11 @@ use Rattle.bits.specs.declared.table.BitTable.{BitTable}
 use Rattle.construction.specs.Replay.{Played, replayed}
 use Rattle.construction.specs.declared.fault.ReplayFault.{ReplayFault}
 use Rattle.lines.specs.Text.{line-text}
-use Rattle.prints.specs.Graph-text.{graph-text}
+use Rattle.prints.specs.Graph-text.{graph-text, graph-length}
 use Rattle.prints.specs.Refusal.{refusal-line}
 use Rattle.texts.specs.List-read.{list-read, end-at}
 use Rattle.texts.specs.declared.fault.TextFault.{TextFault}
+use Rattle.texts.specs.declared.fault.TextFault.the-variants.{TooFew}
 use Rattle.texts.specs.declared.list.Heading.{Heading}
 use Rattle.theory.specs.Graph.{Graph, no-joins, clamped}
 use Rattle.theory.specs.declared.step.Step.{Step}
@@ -65,5 +70,18 @@ abbrev pub printed : Result Graph ProgramFault → List ℕ
 printed (Ok g) = graph-text g
 printed (Err f) = line-text (refusal-line (fault-number f) (fault-layer f) (fault-place f))
 
-abbrev pub replay-prints : List ℕ → List Step → List ℕ
-replay-prints text l = printed (replay-told text l)
+-- a graph whose text does not fit into b bytes is refused by 9, with the bytes needed
+abbrev pub roomed : ℕ → Result Graph ProgramFault → Result Graph ProgramFault
+roomed b (Ok g) = cond (ltb b (graph-length g)) (Err (Text (TooFew (graph-length g)))) (Ok g)
+roomed b (Err f) = Err f
+
+-- and nothing is printed where not even a line fits
+abbrev pub shown : ℕ → Result Graph ProgramFault → List ℕ
+shown b r = cond (ltb b 17) [] (printed (roomed b r))
+
+-- no list is so long that more than the first 36,465 bytes are to be looked at
+abbrev pub looked-at : List ℕ → ℕ → List ℕ
+looked-at text len = take (min (min len (length text)) 36465) text
+
+abbrev pub replay-prints : List ℕ → ℕ → List Step → List ℕ
+replay-prints text len l = shown (length text) (replay-told (looked-at text len) l)

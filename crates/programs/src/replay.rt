@@ -1,17 +1,15 @@
 //! The program `replay`: a list text in, the graph's G and J lines out, or the line of a refusal.
 ghost use mathlib.Core.Path.{_≡_};
 ghost use Prim.Native.Nat.{ℕ, _+_, _≤_};
-ghost use lib.ListN.{length, take};
+ghost use lib.ListN.{length};
 ghost use Rattle.std.specs.Vec.{refused};
+ghost use Rattle.std.specs.declared.result.Result.the-variants.{Ok, Err};
 ghost use Rattle.theory.specs.Graph.{no-joins, clamped};
 ghost use Rattle.construction.specs.Replay.{replayed};
 ghost use Rattle.columns.specs.Laid.{laid};
-ghost use Rattle.lines.specs.Text.{line-text};
-ghost use Rattle.prints.specs.Graph-text.{graph-text};
-ghost use Rattle.prints.specs.Refusal.{refusal-line};
 ghost use Rattle.texts.specs.List-read.{list-read};
-ghost use Rattle.programs.specs.Fault.{fault-number, fault-layer, fault-place, replay-place};
-ghost use Rattle.programs.specs.Replay.{graph-of, meant, left, replay-told, replay-prints};
+ghost use Rattle.programs.specs.Fault.{fault-place, replay-place};
+ghost use Rattle.programs.specs.Replay.{graph-of, meant, left, replay-told, shown};
 ghost use Rattle.programs.specs.Done.{Done};
 use bits::table::BitTable;
 use bits::table::BitTableEditable;
@@ -52,50 +50,39 @@ fn build(text: &[u8], steps: &mut [Step]) -> Result<BitTable, ProgramFault>
     Ok(graph)
 }
 
-/// A graph's text, laid over the text.
-fn lay_graph(graph: &BitTable, text: &mut [u8; 36465]) -> usize
-    ensures count { λ r. ⌜ r ≡ length (graph-text (graph-of (now (graph .entry)))) ⌝ }
-    ensures laid { λ _. ⌜ now (text .exit) ≡ laid (now (text .entry)) 0 (graph-text (graph-of (now (graph .entry)))) ⌝ }
-{
-    match write_graph(graph, text) {
-        Ok(n) => n,
-        Err(_) => unreachable(),
-    }
-}
-
-/// The line of a refusal, laid over the text.
-fn lay_refusal(fault: ProgramFault, text: &mut [u8; 36465]) -> usize
+/// The line of a refusal, laid over the text, or nothing where it has no room.
+fn lay_refusal(fault: ProgramFault, text: &mut [u8]) -> usize
     requires { ⌜ fault-place fault ≤ 99999 ⌝ }
-    ensures count { λ r. ⌜ r ≡ 17 ⌝ }
-    ensures laid { λ _. ⌜ now (text .exit) ≡ laid (now (text .entry)) 0 (line-text (refusal-line (fault-number fault) (fault-layer fault) (fault-place fault))) ⌝ }
+    ensures count { λ r. ⌜ r ≡ length (shown (length (now (text .entry))) (Err fault)) ⌝ }
+    ensures laid { λ _. ⌜ now (text .exit) ≡ laid (now (text .entry)) 0 (shown (length (now (text .entry))) (Err fault)) ⌝ }
 {
     match write_refusal(text, fault.number(), fault.layer(), fault.place() as u32) {
         Ok(n) => n,
-        Err(_) => unreachable(),
+        Err(_) => 0,
     }
 }
 
-/// The same as `replay_text`, where no more bytes were read than the text has.
-fn replay_part(text: &mut [u8; 36465], len: usize, steps: &mut [Step; 2013]) -> usize
-    requires { ⌜ len ≤ 36465 ⌝ }
-    ensures { λ r. ⌜ Done (now (text .entry)) len (now (steps .entry)) r (now (text .exit)) (now (steps .exit)) ⌝ }
+/// A graph's text, laid over the text, or the line of its refusal where it has no room.
+fn lay_graph(graph: &BitTable, text: &mut [u8]) -> usize
+    ensures count { λ r. ⌜ r ≡ length (shown (length (now (text .entry))) (Ok (graph-of (now (graph .entry))))) ⌝ }
+    ensures laid { λ _. ⌜ now (text .exit) ≡ laid (now (text .entry)) 0 (shown (length (now (text .entry))) (Ok (graph-of (now (graph .entry))))) ⌝ }
 {
-    match build(&text[0..len], steps) {
-        Ok(graph) => lay_graph(&graph, text),
-        Err(fault) => lay_refusal(fault, text),
+    match write_graph(graph, text) {
+        Ok(n) => n,
+        Err(fault) => lay_refusal(ProgramFault::from(fault), text),
     }
 }
 
 /// Takes the first `len` bytes of the text as what was read, and lays what is to be printed over the text's first bytes; the
 /// answer is how many these are.
-pub fn replay_text(text: &mut [u8; 36465], len: usize, steps: &mut [Step; 2013]) -> usize
+pub fn replay_text(text: &mut [u8], len: usize, steps: &mut [Step; 2013]) -> usize
     // the bytes printed, every byte of the text, and every step record, for whatever was read; in other words: a graph is
     // printed exactly where the text read is that of a legal build, and then the graph that it builds
     ensures { λ r. ⌜ Done (now (text .entry)) len (now (steps .entry)) r (now (text .exit)) (now (steps .exit)) ⌝ }
 {
-    if len < 36465 {
-        replay_part(text, len, steps)
-    } else {
-        replay_part(text, 36465, steps)
+    let len = len.min(text.len()).min(36465);
+    match build(&text[0..len], steps) {
+        Ok(graph) => lay_graph(&graph, text),
+        Err(fault) => lay_refusal(fault, text),
     }
 }

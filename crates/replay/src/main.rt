@@ -4,17 +4,53 @@ use programs::replay::replay_text;
 use programs::stream::drop_rest;
 use programs::stream::read_whole;
 use std::io;
+use std::io::Read;
 use std::io::Write;
 use theory::step::Step;
 
+/// What is read first. Most lists are no longer, and then the memory for the longest need not be cleared.
+const PAGE: usize = 4096;
+/// The largest query text has 36,448 bytes, and the 17 bytes after a text are judged, too. The three programs hold the same
+/// memory, and the largest text of a list, or of a graph, is shorter.
+const TEXT: usize = 36465;
+
+/// Puts what was read into the longer text.
+fn take_over(text: &mut [u8; TEXT], page: &[u8; PAGE]) {
+    text[0..PAGE].copy_from_slice(page);
+}
+
+/// Reads on into memory for the longest text, where a page was not enough, and prints.
+fn replay_long<R: Read, W: Write>(
+    input: &mut R,
+    output: &mut W,
+    page: &[u8; PAGE],
+    len: usize,
+    steps: &mut [Step; 2013],
+) -> io::Result<()> {
+    let mut text = [0u8; TEXT];
+    take_over(&mut text, page);
+    let mut len = len;
+    if len == PAGE {
+        len += read_whole(input, &mut text[PAGE..])?;
+    }
+    if len == TEXT {
+        drop_rest(input)?;
+    }
+    let n = replay_text(&mut text, len, steps);
+    output.write_all(&text[0..n])
+}
+
 fn main(rt: LibcRuntime) -> io::Result<()> {
-    let mut text = [0u8; 36465];
+    let mut page = [0u8; PAGE];
     let mut steps = [Step::Edge { v: 0, w: 0 }; 2013];
     let mut input = rt.stdin();
-    let len = read_whole(&mut input, &mut text)?;
-    if len == text.len() {
-        drop_rest(&mut input)?;
+    let mut output = rt.stdout();
+    let len = read_whole(&mut input, &mut page)?;
+    // a graph's text has 34 bytes more than its list's
+    if len + 34 <= PAGE {
+        let n = replay_text(&mut page, len, &mut steps);
+        output.write_all(&page[0..n])
+    } else {
+        replay_long(&mut input, &mut output, &page, len, &mut steps)
     }
-    let n = replay_text(&mut text, len, &mut steps);
-    rt.stdout().write_all(&text[0..n])
 }
