@@ -24,7 +24,7 @@ pub fn read_whole<R: Read>(input: &mut R, buffer: &mut [u8]) -> io::Result<usize
 }
 
 /// Reads what is left of the input, and drops it.
-pub fn drop_rest<R: Read>(input: &mut R) -> io::Result<()> {
+fn drop_rest<R: Read>(input: &mut R) -> io::Result<()> {
     let mut scratch = [0u8; 4096];
     for _turn in 0..1000000000 {
         let n = input.read(&mut scratch)?;
@@ -33,4 +33,20 @@ pub fn drop_rest<R: Read>(input: &mut R) -> io::Result<()> {
         }
     }
     Ok(())
+}
+
+/// Reads on where `len` bytes have been read, up to the input's end or the text's, and drops what the text cannot hold; how
+/// many bytes it holds then.
+pub fn read_rest<R: Read>(input: &mut R, text: &mut [u8], len: usize) -> io::Result<usize>
+    ensures { λ r. ⌜ made r (λ n. n ≤ length (now (text .exit))) ⌝ }
+{
+    if len >= text.len() {
+        drop_rest(input)?;
+        return Ok(text.len());
+    }
+    let n = read_whole(input, &mut text[len..])?;
+    if len + n == text.len() {
+        drop_rest(input)?;
+    }
+    Ok(len + n)
 }

@@ -1,7 +1,7 @@
 //! `replay`: reads a build list from standard input, plays it back, and prints the join graph as G and J lines, or one X
 //! line. All that matters is in the library; here is only reading and writing.
 use programs::replay::replay_text;
-use programs::stream::drop_rest;
+use programs::stream::read_rest;
 use programs::stream::read_whole;
 use std::io;
 use std::io::Read;
@@ -31,10 +31,7 @@ fn replay_long<R: Read, W: Write>(
     take_over(&mut text, page);
     let mut len = len;
     if len == PAGE {
-        len += read_whole(input, &mut text[PAGE..])?;
-    }
-    if len == TEXT {
-        drop_rest(input)?;
+        len = read_rest(input, &mut text, PAGE)?;
     }
     let n = replay_text(&mut text, len, steps);
     output.write_all(&text[0..n])
