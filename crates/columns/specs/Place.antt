@@ -1,6 +1,7 @@
 -- Fields as the reader takes them, one byte after another. Each is shown equal to the field's own definition.
 --
 --   place-at, places-at        one byte of a number, and the five of a number field
+--   last-places-at             the last two of the five, where the others are blank
 --   mark-at, marks-at          one byte of a row count, with its sign, and the ten of its field
 --   blank-at, blanks-at        one blank, and the five of an unused field
 --   three-at, last-two-at, first-two-at, counted-at, single-at   the fields of each layout
@@ -29,6 +30,10 @@ places-at text i =
     then (place-at text (i + 2) 2 b) (λ c.
     then (place-at text (i + 3) 1 c) (λ d.
     place-at text (i + 4) 0 d))))
+
+-- the last two places, where the first three are blank
+abbrev pub last-places-at : List ℕ → ℕ → Result ℕ ℕ
+last-places-at text i = then (place-at text (i + 3) 1 0) (λ v. place-at text (i + 4) 0 v)
 
 -- the same with a sign: s .0 says whether a minus sign has been read, and s .1 is the value
 abbrev pub mark-at : List ℕ → ℕ → ℕ → Bool × ℕ → Result (Bool × ℕ) ℕ

@@ -1,3 +1,2 @@
-//! Lines of fixed columns: reading one, and laying one over a buffer.
+//! Reading one line of fixed columns.
 pub mod read;
-pub mod write;

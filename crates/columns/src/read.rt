@@ -2,12 +2,13 @@
 ghost use mathlib.Core.Path.{_≡_};
 ghost use mathlib.Core.Bool.{Bool, true, false};
 ghost use Prim.Native.Nat.{ℕ, _+_, _-_, _*_, _<_, _≤_};
-ghost use lib.ListN.{length};
+ghost use lib.ListN.{length, getD};
+ghost use Rattle.std.specs.declared.result.Result.the-variants.{Ok};
 ghost use Rattle.std.specs.Vec.{made};
 ghost use Rattle.lines.specs.Read.{byte as the-byte, number-at, count-at, unused-at, optional-at, fields-at, line-at, or-number, line-in, signed as the-signed};
 ghost use Rattle.lines.specs.Text.{layout as the-layout};
 ghost use Rattle.lines.specs.Form.{Line-read};
-ghost use Rattle.columns.specs.Place.{place-at, places-at, mark-at, marks-at, count-of, blank-at, blanks-at, three-at, last-two-at, first-two-at, counted-at, single-at};
+ghost use Rattle.columns.specs.Place.{place-at, places-at, last-places-at, mark-at, marks-at, count-of, blank-at, blanks-at, three-at, last-two-at, first-two-at, counted-at, single-at};
 use lines::line::Fields;
 use lines::line::Layout;
 use lines::line::Line;
@@ -35,21 +36,50 @@ fn place(text: &[u8], i: usize, after: u32, v: u32) -> Result<u32, usize>
     }
 }
 
-/// A number in five characters.
-fn number(text: &[u8], at: usize) -> Result<u32, usize>
+/// Whether the first three of five characters are blank: most numbers have at most two digits.
+fn is_short(text: &[u8], at: usize) -> bool
+    requires { ⌜ at ≤ length (now text) + 16 ⌝ }
+    ensures within { λ r. ⌜ (r ≡ true → at + 5 ≤ length (now (text .entry))) ⌝ }
+    ensures first { λ r. ⌜ (r ≡ true → getD (now (text .entry)) at 0 ≡ 32) ⌝ }
+    ensures second { λ r. ⌜ (r ≡ true → getD (now (text .entry)) (at + 1) 0 ≡ 32) ⌝ }
+    ensures third { λ r. ⌜ (r ≡ true → getD (now (text .entry)) (at + 2) 0 ≡ 32) ⌝ }
+{
+    if at + 5 > text.len() {
+        return false;
+    }
+    if text[at] != 32 || text[at + 1] != 32 || text[at + 2] != 32 {
+        return false;
+    }
+    true
+}
+
+/// The last two of five characters, after blanks.
+fn last_places(text: &[u8], at: usize) -> Result<u32, usize>
+    requires { ⌜ at ≤ length (now text) + 16 ⌝ }
+    ensures { λ r. ⌜ r ≡ last-places-at (now (text .entry)) at ⌝ }
+{
+    let v = place(text, at + 3, 1, 0)?;
+    place(text, at + 4, 0, v)
+}
+
+/// All five characters of a number.
+fn places(text: &[u8], at: usize) -> Result<u32, usize>
     requires { ⌜ at ≤ length (now text) + 16 ⌝ }
     ensures { λ r. ⌜ r ≡ places-at (now (text .entry)) at ⌝ }
 {
-    // most numbers have at most two digits
-    if at + 5 <= text.len() && text[at] == 32 && text[at + 1] == 32 && text[at + 2] == 32 {
-        let v = place(text, at + 3, 1, 0)?;
-        return place(text, at + 4, 0, v);
-    }
     let v = place(text, at, 4, 0)?;
     let v = place(text, at + 1, 3, v)?;
     let v = place(text, at + 2, 2, v)?;
     let v = place(text, at + 3, 1, v)?;
     place(text, at + 4, 0, v)
+}
+
+/// A number in five characters.
+fn number(text: &[u8], at: usize) -> Result<u32, usize>
+    requires { ⌜ at ≤ length (now text) + 16 ⌝ }
+    ensures { λ r. ⌜ r ≡ places-at (now (text .entry)) at ⌝ }
+{
+    if is_short(text, at) { last_places(text, at) } else { places(text, at) }
 }
 
 /// One place of a row count: whether a minus sign has been read, and the value so far.
@@ -98,25 +128,38 @@ fn blank(text: &[u8], i: usize) -> Result<(), usize>
     if byte(text, i) == 32 { Ok(()) } else { Err(i) }
 }
 
-/// An unused field: five blanks.
-fn unused(text: &[u8], at: usize) -> Result<(), usize>
+/// Whether all of five characters are blank.
+fn is_unused(text: &[u8], at: usize) -> bool
+    requires { ⌜ at ≤ length (now text) + 16 ⌝ }
+    ensures { λ r. ⌜ (r ≡ true → blanks-at (now (text .entry)) at ≡ Ok tt) ⌝ }
+{
+    if !is_short(text, at) {
+        return false;
+    }
+    if text[at + 3] != 32 || text[at + 4] != 32 {
+        return false;
+    }
+    true
+}
+
+/// Five blanks, one after another.
+fn blanks(text: &[u8], at: usize) -> Result<(), usize>
     requires { ⌜ at ≤ length (now text) + 16 ⌝ }
     ensures { λ r. ⌜ r ≡ blanks-at (now (text .entry)) at ⌝ }
 {
-    if at + 5 <= text.len()
-        && text[at] == 32
-        && text[at + 1] == 32
-        && text[at + 2] == 32
-        && text[at + 3] == 32
-        && text[at + 4] == 32
-    {
-        return Ok(());
-    }
     blank(text, at)?;
     blank(text, at + 1)?;
     blank(text, at + 2)?;
     blank(text, at + 3)?;
     blank(text, at + 4)
+}
+
+/// An unused field: five blanks.
+fn unused(text: &[u8], at: usize) -> Result<(), usize>
+    requires { ⌜ at ≤ length (now text) + 16 ⌝ }
+    ensures { λ r. ⌜ r ≡ blanks-at (now (text .entry)) at ⌝ }
+{
+    if is_unused(text, at) { Ok(()) } else { blanks(text, at) }
 }
 
 /// A value with its sign.

@@ -15,8 +15,8 @@ use lib.ListN.{length, length-append}
 use Rattle.std.specs.Joined.{joined as all-of}
 use Rattle.lines.specs.Text.{line-text}
 use Rattle.lines.proofs.Bytes.{line-length}
-use Rattle.columns.specs.Laid.{laid, laid-line}
-use Rattle.columns.proofs.Lays.{laid-two}
+use Rattle.writer.specs.Laid.{laid, laid-line}
+use Rattle.writer.proofs.Lays.{laid-two}
 use Rattle.theory.specs.Graph.{Graph, Simple, Lowest, joined, table-count, size}
 use Rattle.theory.specs.Listing.{row-from, rows-from, joins-of}
 use Rattle.theory.proofs.Listing.{row-found, row-none, rows-step, rows-done, joins-listed}

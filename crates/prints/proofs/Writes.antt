@@ -18,8 +18,8 @@ use Rattle.std.proofs.shelf.Tests.{lt-ltb, le-ltb, cond-true, cond-false}
 use Rattle.lines.specs.Text.{line-text}
 use Rattle.lines.specs.declared.line.Fields.the-variants.{FirstTwo}
 use Rattle.lines.proofs.Bytes.{line-length}
-use Rattle.columns.specs.Laid.{laid, laid-line, line-of}
-use Rattle.columns.proofs.Lays.{laid-two}
+use Rattle.writer.specs.Laid.{laid, laid-line, line-of}
+use Rattle.writer.proofs.Lays.{laid-two}
 use Rattle.theory.specs.Graph.{Graph, table-count, size}
 use Rattle.texts.specs.List-write.{over, room-for, laid-if}
 use Rattle.texts.specs.declared.fault.TextFault.{TextFault}

@@ -6,10 +6,10 @@ ghost use Rattle.std.specs.Joined.{joined as all-of};
 ghost use Rattle.theory.specs.Graph.{table-count, size};
 ghost use Rattle.theory.specs.Listing.{row-from, joins-of, Lists-joins};
 ghost use Rattle.lines.specs.Text.{line-text};
-ghost use Rattle.columns.specs.Laid.{laid};
+ghost use Rattle.writer.specs.Laid.{laid};
 ghost use Rattle.prints.specs.Graph-text.{join-line, graph-answer, graph-written};
-use columns::write::put_first_two;
-use columns::write::put_last_two;
+use writer::line::put_first_two;
+use writer::line::put_last_two;
 use graph::graph::ReadableGraph;
 use texts::fault::TextFault;
 

@@ -5,7 +5,7 @@ use mathlib.Core.Logic.{_⊎_}
 use mathlib.Core.List.{List}
 use Prim.Native.Nat.{ℕ, _+_, _≤_}
 use lib.ListN.{length, take}
-use Rattle.columns.specs.Laid.{laid}
+use Rattle.writer.specs.Laid.{laid}
 use Rattle.texts.specs.List-read.{list-read}
 use Rattle.theory.specs.declared.step.Step.{Step}
 use Rattle.programs.specs.Replay.{looked-at, replay-prints}

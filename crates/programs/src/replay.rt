@@ -6,7 +6,7 @@ ghost use Rattle.std.specs.Vec.{refused};
 ghost use Rattle.std.specs.declared.result.Result.the-variants.{Ok, Err};
 ghost use Rattle.theory.specs.Graph.{no-joins, clamped};
 ghost use Rattle.construction.specs.Replay.{replayed};
-ghost use Rattle.columns.specs.Laid.{laid};
+ghost use Rattle.writer.specs.Laid.{laid};
 ghost use Rattle.texts.specs.List-read.{list-read};
 ghost use Rattle.programs.specs.Fault.{fault-place, replay-place};
 ghost use Rattle.programs.specs.Replay.{graph-of, meant, left, replay-told, shown};

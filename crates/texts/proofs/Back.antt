@@ -22,7 +22,7 @@ use Rattle.lines.specs.Text.{line-text, Fits, Written}
 use Rattle.lines.proofs.Bytes.{line-length}
 use Rattle.lines.proofs.Lines.{reads-back}
 use Rattle.lines.proofs.Pieces.{agrees-front, agrees-back}
-use Rattle.columns.specs.Laid.{laid}
+use Rattle.writer.specs.Laid.{laid}
 use Rattle.theory.specs.declared.step.Step.{Step}
 use Rattle.theory.specs.declared.step.Step.the-variants.{Edge, Node}
 use Rattle.theory.specs.declared.step.Triangle.{Triangle}

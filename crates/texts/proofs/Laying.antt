@@ -12,7 +12,7 @@ use native.Mathlib.Omega.{arith}
 use lib.ListN.{length, take, drop, set, getD, length-set, take-append-drop}
 use Rattle.std.proofs.shelf.Lists.{take-more-set, drop-set-lt, length-take-le, getD-append-left, getD-append-right}
 use Rattle.lines.specs.Form.{Agrees}
-use Rattle.columns.specs.Laid.{laid}
+use Rattle.writer.specs.Laid.{laid}
 
 pub laid-length : (xs : List ℕ) (at : ℕ) (ys : List ℕ) → length (laid xs at ys) ≡ length xs
 laid-length xs at [] = refl

@@ -26,7 +26,7 @@ use Rattle.lines.specs.declared.line.Fields.the-variants.{Three, LastTwo, First
 use Rattle.lines.specs.declared.line.Line.{Line}
 use Rattle.lines.proofs.Bytes.{line-length}
 use Rattle.lines.proofs.Pieces.{agrees-both}
-use Rattle.columns.specs.Laid.{line-of}
+use Rattle.writer.specs.Laid.{line-of}
 use Rattle.theory.specs.declared.step.Step.{Step}
 use Rattle.theory.specs.declared.step.Step.the-variants.{Edge, Node}
 use Rattle.theory.specs.declared.step.Triangle.{Triangle}

@@ -20,8 +20,8 @@ use Rattle.std.proofs.shelf.Tests.{le-leb}
 use Rattle.lines.specs.Text.{line-text}
 use Rattle.lines.specs.declared.line.Line.{Line}
 use Rattle.lines.proofs.Bytes.{line-length}
-use Rattle.columns.specs.Laid.{laid, laid-line}
-use Rattle.columns.proofs.Lays.{laid-two}
+use Rattle.writer.specs.Laid.{laid, laid-line}
+use Rattle.writer.proofs.Lays.{laid-two}
 use Rattle.theory.specs.declared.step.Step.{Step}
 use Rattle.theory.specs.declared.step.Triangle.{Triangle}
 use Rattle.texts.specs.List-text.{head-line, triangle-line, step-line, step-text, list-text}

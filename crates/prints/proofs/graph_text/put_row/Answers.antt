@@ -4,7 +4,7 @@ use mathlib.Core.List.{[]}
 use Prim.Native.Nat.{suc, _+_, _≤_, _<_}
 use native.Mathlib.Omega.{arith}
 use lib.ListN.{length}
-use Rattle.columns.specs.Laid.{laid}
+use Rattle.writer.specs.Laid.{laid}
 use Rattle.theory.specs.Graph.{table-count}
 use Rattle.prints.proofs.Rows.{rest, lines, other-small, row-next, row-over, row-on}
 use Rattle.prints.proofs.graph_text.put_row.Needs as need

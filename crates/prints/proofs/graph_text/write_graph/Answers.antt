@@ -4,7 +4,7 @@ use mathlib.Core.List.{[]}
 use Prim.Native.Nat.{_+_, _*_, _≤_, _<_}
 use native.Mathlib.Omega.{arith}
 use lib.ListN.{length}
-use Rattle.columns.specs.Laid.{laid}
+use Rattle.writer.specs.Laid.{laid}
 use Rattle.theory.specs.Graph.{table-count, size}
 use Rattle.theory.proofs.Listing.{joins-listed}
 use Rattle.theory.proofs.Sizes.{size-most}

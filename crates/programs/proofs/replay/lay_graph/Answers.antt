@@ -3,7 +3,7 @@ use Prim.Native.Nat.{_≤_}
 use lib.ListN.{length}
 use Rattle.std.specs.declared.result.Result.the-variants.{Ok, Err}
 use Rattle.bits.proofs.Edits.{simple-of}
-use Rattle.columns.specs.Laid.{laid}
+use Rattle.writer.specs.Laid.{laid}
 use Rattle.programs.specs.Replay.{graph-of, shown}
 use Rattle.programs.specs.declared.fault.ProgramFault.the-variants.{Text}
 use Rattle.programs.proofs.Prints.{graph-count, graph-lies, graph-unfit, graph-kept}

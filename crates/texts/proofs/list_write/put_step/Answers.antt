@@ -1,5 +1,5 @@
 use mathlib.Core.Path.{_≡_, sym, ap, _∙_}
-use Rattle.columns.specs.Laid.{laid-line}
+use Rattle.writer.specs.Laid.{laid-line}
 use Rattle.texts.specs.List-text.{step-line}
 use Rattle.texts.proofs.list_write.put_step.Needs as need
 

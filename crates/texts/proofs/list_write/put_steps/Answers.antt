@@ -4,7 +4,7 @@ use native.Mathlib.Omega.{arith}
 use lib.ListN.{length, take}
 use lib.Seq.{take-all}
 use Rattle.std.specs.Joined.{joined}
-use Rattle.columns.specs.Laid.{laid}
+use Rattle.writer.specs.Laid.{laid}
 use Rattle.theory.specs.declared.step.Step.the-variants.{Edge}
 use Rattle.texts.specs.List-text.{step-line, step-text}
 use Rattle.texts.proofs.Writing.{lines-more}

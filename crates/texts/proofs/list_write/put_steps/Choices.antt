@@ -1,7 +1,7 @@
 use mathlib.Core.Path.{_≡_}
 use lib.ListN.{take, length}
 use Rattle.std.specs.Joined.{joined}
-use Rattle.columns.specs.Laid.{laid}
+use Rattle.writer.specs.Laid.{laid}
 use Rattle.texts.specs.List-text.{step-text}
 use Rattle.texts.proofs.list_write.put_steps.Given as given
 

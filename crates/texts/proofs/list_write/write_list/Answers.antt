@@ -7,7 +7,7 @@ use lib.ListN.{length}
 use Rattle.std.specs.Joined.{joined}
 use Rattle.std.specs.declared.result.Result.{Result}
 use Rattle.std.specs.declared.result.Result.the-variants.{Ok, Err}
-use Rattle.columns.specs.Laid.{laid, laid-line}
+use Rattle.writer.specs.Laid.{laid, laid-line}
 use Rattle.theory.specs.declared.step.Step.{Step}
 use Rattle.theory.specs.declared.step.Triangle.{Triangle}
 use Rattle.texts.specs.declared.fault.TextFault.{TextFault}

@@ -6,7 +6,7 @@ ghost use Prim.Native.Nat.{ℕ, _+_, _-_, _*_, _/_, _%_, _<_, _≤_};
 ghost use lib.Dec.{eqb};
 ghost use lib.ListN.{length, set};
 ghost use Rattle.lines.specs.Text.{number-text, unused-text, optional-text, fields-text, line-text, Fits, Option-fits};
-ghost use Rattle.columns.specs.Laid.{laid, laid-line, line-of};
+ghost use Rattle.writer.specs.Laid.{laid, laid-line, line-of};
 use lines::line::Fields;
 use lines::line::Line;
 

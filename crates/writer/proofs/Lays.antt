@@ -5,7 +5,7 @@ use Prim.Native.Nat.{ℕ, suc, _+_, _≤_}
 use native.Mathlib.Omega.{arith}
 use lib.ListN.{length, set, length-append}
 use Rattle.lines.specs.Text.{fields-text, line-text}
-use Rattle.columns.specs.Laid.{laid}
+use Rattle.writer.specs.Laid.{laid}
 
 pub laid-two : (xs : List ℕ) (at i : ℕ) (a b : List ℕ) → i ≡ at + length a → laid (laid xs at a) i b ≡ laid xs at (a ++ b)
 laid-two xs at i [] b e = ap (λ n. laid xs n b) (e ∙ omega arith)

@@ -1,0 +1,2 @@
+//! Laying one line of fixed columns over a buffer.
+pub mod line;
