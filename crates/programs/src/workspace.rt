@@ -1,5 +1,4 @@
-//! The memory that each program holds and lends to the library: one text, step records and marks, and no heap.
-use theory::step::Step;
+//! What the three programs hold alike: the sizes of their texts, and the record of a mark.
 
 /// A mark of a join tree: two joined tables.
 #[derive(Clone, Copy, PartialEq, Eq, Debug)]
@@ -8,13 +7,9 @@ pub struct Mark {
     pub w: u32,
 }
 
-/// What a program reads is held in `text`, and what it prints is written over it.
-#[derive(Drop)]
-pub struct Workspace {
-    /// The largest query text has 36,448 bytes, and 17 bytes after a text are judged.
-    pub text: [u8; 36465],
-    /// The largest list has 2,013 steps.
-    pub steps: [Step; 2013],
-    /// The largest tree has 63 marks.
-    pub marks: [Mark; 63],
-}
+/// What is read first. Most texts are no longer, and then the memory for the longest need not be cleared.
+pub const PAGE: usize = 4096;
+
+/// The largest query text has 36,448 bytes, and the 17 bytes after a text are judged, too. The largest text of a list, or of
+/// a graph, is shorter.
+pub const TEXT: usize = 36465;

@@ -3,16 +3,13 @@
 use programs::replay::replay_text;
 use programs::stream::read_rest;
 use programs::stream::read_whole;
+use programs::workspace::Mark;
+use programs::workspace::PAGE;
+use programs::workspace::TEXT;
 use std::io;
 use std::io::Read;
 use std::io::Write;
 use theory::step::Step;
-
-/// What is read first. Most lists are no longer, and then the memory for the longest need not be cleared.
-const PAGE: usize = 4096;
-/// The largest query text has 36,448 bytes, and the 17 bytes after a text are judged, too. The three programs hold the same
-/// memory, and the largest text of a list, or of a graph, is shorter.
-const TEXT: usize = 36465;
 
 /// Puts what was read into the longer text.
 fn take_over(text: &mut [u8; TEXT], page: &[u8; PAGE]) {
@@ -40,6 +37,8 @@ fn replay_long<R: Read, W: Write>(
 fn main(rt: LibcRuntime) -> io::Result<()> {
     let mut page = [0u8; PAGE];
     let mut steps = [Step::Edge { v: 0, w: 0 }; 2013];
+    // the three programs hold the same memory; this one reads no marks
+    let _marks = [Mark { v: 0, w: 0 }; 63];
     let mut input = rt.stdin();
     let mut output = rt.stdout();
     let len = read_whole(&mut input, &mut page)?;
