@@ -17,7 +17,7 @@ use Rattle.theory.proofs.Sizes.{joining-simple, unjoining-simple, joining-size,
 use Rattle.graph.specs.declared.fault.StoreFault.the-variants.{UnknownTable, SameTable, AlreadyJoined, NotJoined, Full}
 use Rattle.construction.specs.Replay.{Building, started, step-answer, step-after}
 use Rattle.construction.specs.Inner.{building, Within-use, node-conditions, splice-conditions}
-use Rattle.construction.specs.declared.fault.ReplayFault.the-variants.{Store, NotInUse}
+use Rattle.refusals.specs.declared.fault.ReplayFault.the-variants.{Store, NotInUse}
 use Rattle.construction.proofs.First.{past, front-ok}
 use Rattle.construction.proofs.Joins.{third-free}
 use Rattle.construction.proofs.Inner.{Startable, started-simple, well-named, no-neighbours}

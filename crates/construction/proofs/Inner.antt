@@ -21,12 +21,12 @@ use Rattle.graph.specs.First.{refused-first}
 use Rattle.graph.specs.Store.{join-answer, unjoin-answer, after}
 use Rattle.graph.specs.declared.fault.StoreFault.{StoreFault}
 use Rattle.graph.specs.declared.fault.StoreFault.the-variants.{UnknownTable, SameTable, AlreadyJoined, NotJoined, Full}
-use Rattle.construction.specs.Fault.{marked}
+use Rattle.refusals.specs.Fault.{marked}
 use Rattle.construction.specs.Replay.{start-answer, started, step-answer, step-after, close-from}
 use Rattle.construction.specs.Inner.{flagged, building, left, Within-use, triangle-answer, corners, edge-used, node-conditions, node-judged, held-answer, splice-conditions, splice-answer, spliced}
-use Rattle.construction.specs.declared.fault.AtStep.{AtStep}
-use Rattle.construction.specs.declared.fault.ReplayFault.{ReplayFault}
-use Rattle.construction.specs.declared.fault.ReplayFault.the-variants.{Store, HasJoins, NotTriangle, InUse, NotInUse, Unused}
+use Rattle.refusals.specs.declared.fault.AtStep.{AtStep}
+use Rattle.refusals.specs.declared.fault.ReplayFault.{ReplayFault}
+use Rattle.refusals.specs.declared.fault.ReplayFault.the-variants.{Store, HasJoins, NotTriangle, InUse, NotInUse, Unused}
 use Rattle.construction.proofs.First.{ok-err, past, first-on, first-off}
 use Rattle.construction.proofs.Joins.{all-clear, no-size, join-ok}
 

@@ -18,12 +18,12 @@ use Rattle.theory.specs.declared.step.Step.the-variants.{Edge, Node}
 use Rattle.theory.specs.declared.step.Triangle.{Triangle}
 use Rattle.graph.specs.First.{refused-first}
 use Rattle.graph.specs.declared.fault.StoreFault.the-variants.{UnknownTable, SameTable, AlreadyJoined, NotJoined, Full}
-use Rattle.construction.specs.Fault.{replay-number, replay-step}
+use Rattle.refusals.specs.Fault.{replay-number, replay-step}
 use Rattle.construction.specs.Replay.{Building, Played, start-answer, started, step-answer, step-after, close-from, close-answer, onward, steps-from, replayed}
 use Rattle.construction.specs.Inner.{node-conditions, splice-conditions}
 use Rattle.construction.specs.Law.{Accepted-exactly, Accepted-with-room, conditions, Refused-at-first}
-use Rattle.construction.specs.declared.fault.ReplayFault.{ReplayFault}
-use Rattle.construction.specs.declared.fault.ReplayFault.the-variants.{Store, HasJoins, NotTriangle, InUse, NotInUse, Unused}
+use Rattle.refusals.specs.declared.fault.ReplayFault.{ReplayFault}
+use Rattle.refusals.specs.declared.fault.ReplayFault.the-variants.{Store, HasJoins, NotTriangle, InUse, NotInUse, Unused}
 use Rattle.construction.proofs.First.{ok-err}
 use Rattle.construction.proofs.Joins.{no-size}
 use Rattle.construction.proofs.Inner.{Startable, startable, started-size}

@@ -12,7 +12,7 @@ use Rattle.theory.specs.declared.step.Step.{Step}
 use Rattle.theory.specs.declared.step.Triangle.{Triangle}
 use Rattle.construction.specs.Replay.{Building, Played, start-answer, started, step-answer, step-after, close-answer, onward, steps-from, replayed}
 use Rattle.construction.specs.Inner.{building, left, corners}
-use Rattle.construction.specs.declared.fault.ReplayFault.{ReplayFault}
+use Rattle.refusals.specs.declared.fault.ReplayFault.{ReplayFault}
 use Rattle.construction.proofs.Inner.{startable, same-building}
 use Rattle.construction.proofs.Going.{Going, started-going, answer-fits, step-going}
 

@@ -31,8 +31,8 @@ use Rattle.graph.specs.First.{refused-first}
 use Rattle.graph.specs.declared.fault.StoreFault.{StoreFault}
 use Rattle.graph.specs.declared.fault.StoreFault.the-variants.{UnknownTable, SameTable, NotJoined, Full}
 use Rattle.construction.specs.Replay.{Building}
-use Rattle.construction.specs.declared.fault.ReplayFault.{ReplayFault}
-use Rattle.construction.specs.declared.fault.ReplayFault.the-variants.{Store, HasJoins, NotTriangle, InUse, NotInUse}
+use Rattle.refusals.specs.declared.fault.ReplayFault.{ReplayFault}
+use Rattle.refusals.specs.declared.fault.ReplayFault.the-variants.{Store, HasJoins, NotTriangle, InUse, NotInUse}
 
 abbrev pub flagged : List Bool → ℕ → Bool
 flagged flags k = getD flags k false

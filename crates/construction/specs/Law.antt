@@ -22,8 +22,8 @@ use Rattle.theory.specs.declared.step.Step.{Step}
 use Rattle.theory.specs.declared.step.Step.the-variants.{Edge, Node}
 use Rattle.theory.specs.declared.step.Triangle.{Triangle}
 use Rattle.graph.specs.First.{refused-first}
-use Rattle.construction.specs.Fault.{replay-number, replay-step}
-use Rattle.construction.specs.declared.fault.ReplayFault.{ReplayFault}
+use Rattle.refusals.specs.Fault.{replay-number, replay-step}
+use Rattle.refusals.specs.declared.fault.ReplayFault.{ReplayFault}
 
 abbrev pub Accepted-exactly : Graph → Triangle → List Step → Result Unit ReplayFault → Graph → Type 0
 Accepted-exactly m t l r g = m ≡ no-joins (table-count m) → (r ≡ Ok tt) ↔ Legal-build g t l

@@ -22,8 +22,8 @@ use Rattle.theory.specs.declared.step.Step.the-variants.{Edge, Node}
 use Rattle.theory.specs.declared.step.Triangle.{Triangle}
 use Rattle.graph.specs.First.{refused-first}
 use Rattle.graph.specs.declared.fault.StoreFault.the-variants.{UnknownTable, SameTable, AlreadyJoined, NotJoined, Full}
-use Rattle.construction.specs.declared.fault.ReplayFault.{ReplayFault}
-use Rattle.construction.specs.declared.fault.ReplayFault.the-variants.{Store, HasJoins, NotTriangle, InUse, NotInUse, Unused}
+use Rattle.refusals.specs.declared.fault.ReplayFault.{ReplayFault}
+use Rattle.refusals.specs.declared.fault.ReplayFault.the-variants.{Store, HasJoins, NotTriangle, InUse, NotInUse, Unused}
 
 pub record Building : Type 0 where
   pub graph : Graph

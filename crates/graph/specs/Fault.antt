@@ -11,9 +11,10 @@ store-number (AlreadyJoined a b) = 3
 store-number (NotJoined a b) = 4
 store-number (Full c) = 5
 
+-- the tables or the amount, and 0 where it names one alone
 abbrev pub store-values : StoreFault → List ℕ
-store-values (UnknownTable t) = t ∷ []
-store-values (SameTable t) = t ∷ []
+store-values (UnknownTable t) = t ∷ 0 ∷ []
+store-values (SameTable t) = t ∷ 0 ∷ []
 store-values (AlreadyJoined a b) = a ∷ b ∷ []
 store-values (NotJoined a b) = a ∷ b ∷ []
-store-values (Full c) = c ∷ []
+store-values (Full c) = c ∷ 0 ∷ []

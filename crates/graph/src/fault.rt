@@ -1,6 +1,6 @@
 //! Why a store refuses an edit.
 ghost use mathlib.Core.Path.{_≡_};
-ghost use Rattle.graph.specs.Fault.{store-number};
+ghost use Rattle.graph.specs.Fault.{store-number, store-values};
 
 /// A store's refusal, with the tables or the amount that it names.
 #[derive(Clone, Copy, PartialEq, Eq, Debug)]
@@ -28,6 +28,19 @@ impl StoreFault {
             StoreFault::AlreadyJoined { a: _, b: _ } => 3,
             StoreFault::NotJoined { a: _, b: _ } => 4,
             StoreFault::Full { capacity: _ } => 5,
+        }
+    }
+
+    /// The tables or the amount that it names, and 0 where it names one alone.
+    pub fn values(self) -> [u32; 2]
+        ensures { λ r. ⌜ r ≡ store-values self ⌝ }
+    {
+        match self {
+            StoreFault::UnknownTable { table } => [table, 0],
+            StoreFault::SameTable { table } => [table, 0],
+            StoreFault::AlreadyJoined { a, b } => [a, b],
+            StoreFault::NotJoined { a, b } => [a, b],
+            StoreFault::Full { capacity } => [capacity, 0],
         }
     }
 }

@@ -16,7 +16,7 @@ use Rattle.std.proofs.shelf.Lists.{take-all, take-at}
 use Rattle.std.proofs.shelf.Tests.{eqb-true, eq-eqb}
 use Rattle.std.proofs.shelf.Ways.{tells}
 use Rattle.construction.specs.Replay.{Played, replayed}
-use Rattle.construction.specs.declared.fault.ReplayFault.{ReplayFault}
+use Rattle.refusals.specs.declared.fault.ReplayFault.{ReplayFault}
 use Rattle.construction.proofs.Laws.{accepted-exactly, accepted-with-room, accepted-size, replayed-tables}
 use Rattle.lines.specs.Read.{line-at}
 use Rattle.lines.specs.Text.{line-text}

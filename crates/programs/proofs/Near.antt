@@ -9,10 +9,10 @@ use lib.ListN.{length, drop, length-drop}
 use Rattle.std.specs.declared.result.Result.{Result}
 use Rattle.std.specs.declared.result.Result.the-variants.{Ok, Err}
 use Rattle.std.proofs.shelf.Tests.{cases-lt}
-use Rattle.construction.specs.Fault.{replay-step}
+use Rattle.refusals.specs.Fault.{replay-step}
 use Rattle.construction.specs.Replay.{Building, Played, start-answer, started, step-answer, step-after, close-from, close-answer, onward, steps-from, replayed}
-use Rattle.construction.specs.declared.fault.ReplayFault.{ReplayFault}
-use Rattle.construction.specs.declared.fault.ReplayFault.the-variants.{Store, HasJoins, NotTriangle, InUse, NotInUse, Unused}
+use Rattle.refusals.specs.declared.fault.ReplayFault.{ReplayFault}
+use Rattle.refusals.specs.declared.fault.ReplayFault.the-variants.{Store, HasJoins, NotTriangle, InUse, NotInUse, Unused}
 use Rattle.construction.proofs.Laws.{refused-at-first}
 use Rattle.graph.specs.First.{refused-first}
 use Rattle.theory.specs.Graph.{Graph, Simple, table-count, no-joins}

@@ -16,7 +16,7 @@ use Rattle.std.specs.declared.result.Result.the-variants.{Ok, Err}
 use Rattle.std.proofs.shelf.Ways.{tells}
 use Rattle.bits.specs.declared.table.BitTable.{BitTable}
 use Rattle.construction.specs.Replay.{Played, replayed}
-use Rattle.construction.specs.declared.fault.ReplayFault.{ReplayFault}
+use Rattle.refusals.specs.declared.fault.ReplayFault.{ReplayFault}
 use Rattle.texts.specs.List-read.{list-read, end-at}
 use Rattle.texts.specs.declared.fault.TextFault.{TextFault}
 use Rattle.texts.specs.declared.list.Heading.{Heading}

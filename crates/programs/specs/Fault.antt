@@ -5,9 +5,9 @@
 --   fault-place f    a text's place or amount; a replay's step; the table that no step has put into use
 use Prim.Native.Nat.{ℕ}
 use Rattle.texts.specs.Fault.{text-number, text-value}
-use Rattle.construction.specs.Fault.{replay-number}
-use Rattle.construction.specs.declared.fault.ReplayFault.{ReplayFault}
-use Rattle.construction.specs.declared.fault.ReplayFault.the-variants.{Store, HasJoins, NotTriangle, InUse, NotInUse, Unused}
+use Rattle.refusals.specs.Fault.{replay-number}
+use Rattle.refusals.specs.declared.fault.ReplayFault.{ReplayFault}
+use Rattle.refusals.specs.declared.fault.ReplayFault.the-variants.{Store, HasJoins, NotTriangle, InUse, NotInUse, Unused}
 use Rattle.programs.specs.declared.fault.ProgramFault.{ProgramFault}
 use Rattle.programs.specs.declared.fault.ProgramFault.the-variants.{Text, Replay}
 

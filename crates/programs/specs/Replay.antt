@@ -18,7 +18,7 @@ use Rattle.std.specs.declared.result.Result.the-variants.{Ok, Err}
 use Rattle.bits.specs.Rows.{rows-graph}
 use Rattle.bits.specs.declared.table.BitTable.{BitTable}
 use Rattle.construction.specs.Replay.{Played, replayed}
-use Rattle.construction.specs.declared.fault.ReplayFault.{ReplayFault}
+use Rattle.refusals.specs.declared.fault.ReplayFault.{ReplayFault}
 use Rattle.lines.specs.Text.{line-text}
 use Rattle.prints.specs.Graph-text.{graph-text, graph-length}
 use Rattle.prints.specs.Refusal.{refusal-line}

@@ -2,9 +2,9 @@
 ghost use mathlib.Core.Path.{_≡_};
 ghost use Rattle.programs.specs.Fault.{fault-number, fault-layer, fault-place};
 ghost use Rattle.programs.specs.declared.fault.ProgramFault.the-variants.{Text, Replay};
-use construction::fault::ReplayFault;
-use construction::fault::ReplayFaultDebug;
-use construction::fault::ReplayFaultPartialEq;
+use refusals::fault::ReplayFault;
+use refusals::fault::ReplayFaultDebug;
+use refusals::fault::ReplayFaultPartialEq;
 use texts::fault::TextFault;
 use texts::fault::TextFaultDebug;
 use texts::fault::TextFaultPartialEq;

@@ -14,7 +14,7 @@ ghost use Rattle.programs.specs.Done.{Done};
 use bits::table::BitTable;
 use bits::table::BitTableEditable;
 use bits::table::BitTableReadable;
-use construction::fault::ReplayFault;
+use refusals::fault::ReplayFault;
 use construction::replay::replay;
 use prints::graph_text::write_graph;
 use prints::refusal::write_refusal;

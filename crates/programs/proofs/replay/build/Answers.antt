@@ -7,7 +7,7 @@ use Rattle.std.specs.declared.result.Result.the-variants.{Ok, Err}
 use Rattle.std.proofs.shelf.Results.{err-from-errBy}
 use Rattle.texts.specs.Fault.{text-value}
 use Rattle.texts.specs.List-read.{list-read}
-use Rattle.construction.specs.declared.fault.ReplayFault.{ReplayFault}
+use Rattle.refusals.specs.declared.fault.ReplayFault.{ReplayFault}
 use Rattle.texts.proofs.Refusals.{refused-on}
 use Rattle.theory.specs.Graph.{no-joins, clamped}
 use Rattle.construction.specs.Replay.{replayed}

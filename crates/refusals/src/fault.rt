@@ -1,7 +1,7 @@
 //! Why a replay refuses. A store's refusal is carried whole, with the number of its step.
 ghost use mathlib.Core.Path.{_≡_};
-ghost use Rattle.construction.specs.Fault.{replay-number, marked};
-ghost use Rattle.construction.specs.declared.fault.ReplayFault.the-variants.{Store};
+ghost use Rattle.refusals.specs.Fault.{replay-number, replay-step, replay-values, marked};
+ghost use Rattle.refusals.specs.declared.fault.ReplayFault.the-variants.{Store};
 use graph::fault::StoreFault;
 use graph::fault::StoreFaultDebug;
 use graph::fault::StoreFaultPartialEq;
@@ -42,6 +42,34 @@ impl ReplayFault {
             ReplayFault::InUse { step: _, table: _ } => 12,
             ReplayFault::NotInUse { step: _, table: _ } => 13,
             ReplayFault::Unused { table: _ } => 14,
+        }
+    }
+
+    /// The step that it names: the first is 1, and 0 is the triangle, or none.
+    pub fn step(self) -> usize
+        ensures { λ r. ⌜ r ≡ replay-step self ⌝ }
+    {
+        match self {
+            ReplayFault::Store { step, fault: _ } => step,
+            ReplayFault::HasJoins => 0,
+            ReplayFault::NotTriangle => 0,
+            ReplayFault::InUse { step, table: _ } => step,
+            ReplayFault::NotInUse { step, table: _ } => step,
+            ReplayFault::Unused { table: _ } => 0,
+        }
+    }
+
+    /// What a store's refusal names, or the table, and 0 where there is no more.
+    pub fn values(self) -> [u32; 2]
+        ensures { λ r. ⌜ r ≡ replay-values self ⌝ }
+    {
+        match self {
+            ReplayFault::Store { step: _, fault } => fault.values(),
+            ReplayFault::HasJoins => [0, 0],
+            ReplayFault::NotTriangle => [0, 0],
+            ReplayFault::InUse { step: _, table } => [table, 0],
+            ReplayFault::NotInUse { step: _, table } => [table, 0],
+            ReplayFault::Unused { table } => [table, 0],
         }
     }
 }

@@ -10,9 +10,9 @@ use Rattle.std.specs.declared.result.Result.{Result}
 use Rattle.std.specs.declared.result.Result.the-variants.{Ok, Err}
 use Rattle.graph.specs.Fault.{store-number, store-values}
 use Rattle.graph.specs.declared.fault.StoreFault.{StoreFault}
-use Rattle.construction.specs.declared.fault.AtStep.{AtStep}
-use Rattle.construction.specs.declared.fault.ReplayFault.{ReplayFault}
-use Rattle.construction.specs.declared.fault.ReplayFault.the-variants.{Store, HasJoins, NotTriangle, InUse, NotInUse, Unused}
+use Rattle.refusals.specs.declared.fault.AtStep.{AtStep}
+use Rattle.refusals.specs.declared.fault.ReplayFault.{ReplayFault}
+use Rattle.refusals.specs.declared.fault.ReplayFault.the-variants.{Store, HasJoins, NotTriangle, InUse, NotInUse, Unused}
 
 abbrev pub replay-number : ReplayFault → ℕ
 replay-number (Store k f) = store-number f
@@ -30,13 +30,14 @@ replay-step (InUse k t) = k
 replay-step (NotInUse k t) = k
 replay-step (Unused t) = 0
 
+-- what a store's refusal names, or the table, and 0 where there is no more
 abbrev pub replay-values : ReplayFault → List ℕ
 replay-values (Store k f) = store-values f
-replay-values HasJoins = []
-replay-values NotTriangle = []
-replay-values (InUse k t) = t ∷ []
-replay-values (NotInUse k t) = t ∷ []
-replay-values (Unused t) = t ∷ []
+replay-values HasJoins = 0 ∷ 0 ∷ []
+replay-values NotTriangle = 0 ∷ 0 ∷ []
+replay-values (InUse k t) = t ∷ 0 ∷ []
+replay-values (NotInUse k t) = t ∷ 0 ∷ []
+replay-values (Unused t) = t ∷ 0 ∷ []
 
 abbrev pub marked : ℕ → Result Unit StoreFault → Result Unit AtStep
 marked k (Ok v) = Ok v
