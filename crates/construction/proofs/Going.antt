@@ -7,9 +7,10 @@ use Prim.Native.Nat.{ℕ, _+_, _<_}
 use native.Mathlib.Omega.{arith}
 use lib.Dec.{eqb, leb}
 use Rattle.std.proofs.shelf.Tests.{or-cases, or-left, or-right, and-parts, eqb-true, eq-eqb, not-false, ltb-true, eqb-false, leb-false, lt-ltb, ne-eqb, lt-leb, both-ways}
+use Rattle.std.proofs.shelf.Ways.{tells}
 use Rattle.std.specs.declared.result.Result.the-variants.{Ok}
 use Rattle.theory.specs.Graph.{Graph, Simple, same-pair, joined, joining, unjoining, is-table, size}
-use Rattle.theory.specs.Build.{Part, Allowed, after, with-table}
+use Rattle.theory.specs.Build.{Part, Allowed, after, with-join, without-join, with-table}
 use Rattle.theory.specs.declared.step.Step.{Step}
 use Rattle.theory.specs.declared.step.Step.the-variants.{Edge, Node}
 use Rattle.theory.specs.declared.step.Triangle.{Triangle}
@@ -231,10 +232,15 @@ step-tables b (Node u v w) = refl
 abbrev pub part-of : Building → Part
 part-of b = record { in-use = b .used; joins = b .graph .adj }
 
-pub part-after : (b : Building) (s : Step) → after s (part-of b) ≡ part-of (step-after b s)
+-- a join of u is not the one taken out, so it may be put in before or after
+same-splice : (u v w : ℕ) (J : ℕ → ℕ → Bool) → (u ≡ w → ⊥) → (x y : ℕ)
+    → with-join u w (with-join u v (without-join v w J)) x y ≡ with-join u w (without-join v w (with-join u v J)) x y
+same-splice u v w J uw x y = grind (arith, tells)
+
+pub part-after : (b : Building) (s : Step) → Fits b s → after s (part-of b) ≡ part-of (step-after b s)
 unfolding step-after
-part-after b (Edge v w) = refl
-part-after b (Node u v w) = refl
+part-after b (Edge v w) f = refl
+part-after b (Node u v w) f = λ i. record { in-use = with-table u (b .used); joins = λ x y. same-splice u v w (b .graph .adj) (f .uw) x y i }
 
 pub fits-allowed : (b : Building) (s : Step) → Fits b s → Allowed s (part-of b)
 fits-allowed b (Edge v w) f = (f .placed-v, f .placed-w, f .vw, f .free)

@@ -1,4 +1,5 @@
--- What a replay amounts to: it accepts exactly the legal builds, and refuses at the first step that is not allowed.
+-- What a replay amounts to: it accepts exactly the legal builds, and refuses at the first step that is not allowed, or at
+-- the close the lowest table not in use.
 use mathlib.Core.Path.{_≡_, refl, sym, ap, subst, _∙_}
 use mathlib.Core.Bool.{Bool, true, false, cond, not, _&&_, _||_}
 use mathlib.Core.List.{List, [], _∷_, _++_}
@@ -10,7 +11,7 @@ use lib.ListN.{length, take, drop}
 use Rattle.std.proofs.shelf.Tests.{cases-bool, cases-eq, cases-lt, ltb-true, lt-ltb, le-ltb, eq-eqb, or-left, or-right}
 use Rattle.std.specs.declared.result.Result.{Result}
 use Rattle.std.specs.declared.result.Result.the-variants.{Ok, Err}
-use Rattle.theory.specs.Graph.{Graph, Simple, joined, is-table, table-count, size, some-join, no-joins}
+use Rattle.theory.specs.Graph.{Graph, Simple, Lowest, joined, is-table, table-count, size, some-join, no-joins}
 use Rattle.theory.specs.Build.{Part, Allowed, after, Builds, triangle, whole, Legal-build}
 use Rattle.theory.specs.Build.Builds.{done, next}
 use Rattle.theory.specs.declared.step.Step.{Step}
@@ -21,7 +22,7 @@ use Rattle.graph.specs.declared.fault.StoreFault.the-variants.{UnknownTable, Sa
 use Rattle.refusals.specs.Fault.{replay-number, replay-step}
 use Rattle.construction.specs.Replay.{Building, Played, start-answer, started, step-answer, step-after, close-from, close-answer, onward, steps-from, replayed}
 use Rattle.construction.specs.Inner.{node-conditions, splice-conditions}
-use Rattle.construction.specs.Law.{Accepted-exactly, Accepted-with-room, conditions, Refused-at-first}
+use Rattle.construction.specs.Law.{Accepted-exactly, Accepted-with-room, conditions, Refused-at-first, Unused-told, Start-told}
 use Rattle.refusals.specs.declared.fault.ReplayFault.{ReplayFault}
 use Rattle.refusals.specs.declared.fault.ReplayFault.the-variants.{Store, HasJoins, NotTriangle, InUse, NotInUse, Unused}
 use Rattle.construction.proofs.First.{ok-err}
@@ -59,7 +60,7 @@ module _ (b : Building) (s : Step) (l : List Step) (g : Graph) (n : g .tables �
       (λ x e. let t : x < g .tables = ltb-true x (g .tables) (stays-used (after s (part-of b)) (whole g) l x (one-step built .1) e) in omega arith)
 
   legal-rest : Builds (part-of (step-after b s)) l (whole g)
-  legal-rest = subst (λ p. Builds p l (whole g)) (part-after b s) (one-step built .1)
+  legal-rest = subst (λ p. Builds p l (whole g)) (part-after b s legal-fits) (one-step built .1)
 
   legal-going : Going (step-after b s)
   legal-going = step-going b s h legal-fits
@@ -98,14 +99,45 @@ used-all k (suc n) U e x a b =
     first-up true r h = (refl, h)
     first-up false r h = absurd (ok-err (Unused k) (sym h))
 
--- a refusal at the close names no step
+-- a refusal at the close names the lowest table not in use
+record Closing (k n : ℕ) (U : ℕ → Bool) (f : ReplayFault) : Type 0 where
+  table : ℕ
+  is : f ≡ Unused table
+  below : table < k + n
+  lowest : Lowest (λ y. not (U y)) k table
+
+closing : (k n : ℕ) (U : ℕ → Bool) (f : ReplayFault) → close-from k n U ≡ Err f → Closing k n U f
+closing k zero U f e = absurd (ok-err f e)
+closing k (suc n) U f e =
+    ⊎-elim
+    (λ up.
+    let r = closing (k + 1) n U f (sym (ap (λ v. cond v (close-from (k + 1) n U) (Err (Unused k))) up) ∙ e) in
+    let near : r .table < k + 1 + n = r .below in
+    let past : k + 1 ≤ r .table = r .lowest .above in
+    record {
+      table = r .table;
+      is = r .is;
+      below = omega arith;
+      lowest = record {
+        holds = r .lowest .holds;
+        above = omega arith;
+        none = λ y a b.
+            ⊎-elim (λ (q : y ≡ k). ap (λ z. not (U z)) q ∙ ap not up) (λ (ne : y ≡ k → ⊥). r .lowest .none y (omega arith) b) (cases-eq y k);
+      };
+    })
+    (λ down.
+    let z : Err (Unused k) ≡ Err f = sym (ap (λ v. cond v (close-from (k + 1) n U) (Err (Unused k))) down) ∙ e in
+    record {
+      table = k;
+      is = cc;
+      below = omega arith;
+      lowest = record { holds = ap not down; above = omega arith; none = λ y a b. absurd (omega arith) };
+    })
+    (cases-bool (U k))
+
+-- and no step
 close-step : (k n : ℕ) (U : ℕ → Bool) (f : ReplayFault) → close-from k n U ≡ Err f → replay-step f ≡ 0
-close-step k zero U f e = absurd (ok-err f e)
-close-step k (suc n) U f e = at (U k) (close-from (k + 1) n U) e (close-step (k + 1) n U f)
-  where
-    at : (v : Bool) (r : Result Unit ReplayFault) → cond v r (Err (Unused k)) ≡ Err f → (r ≡ Err f → replay-step f ≡ 0) → replay-step f ≡ 0
-    at true r h again = again h
-    at false r h again = let q : Unused k ≡ f = cc in sym (ap replay-step q)
+close-step k n U f e = ap replay-step (closing k n U f e .is)
 
 -- all tables are in use where the close accepts, and then the build is whole
 closed-whole : (b : Building) → Going b → close-answer b ≡ Ok tt → part-of b ≡ whole (b .graph)
@@ -166,7 +198,7 @@ played-builds c k b (s ∷ l) h e =
     let z = on c k b s l ok in
     let f = answer-fits c k b s ok .0 in
     next (fits-allowed b s f)
-    (subst (λ p. Builds p l (whole (steps-from c k b (s ∷ l) .graph))) (sym (part-after b s))
+    (subst (λ p. Builds p l (whole (steps-from c k b (s ∷ l) .graph))) (sym (part-after b s f))
     (subst (λ q. Builds (part-of (step-after b s)) l (whole (graph-of q))) (sym z)
     (played-builds c (k + 1) (step-after b s) l (step-going b s h f) (sym (ap told-of z) ∙ e)))))
     (λ bad. absurd (ok-err (bad .0) (sym e ∙ ap told-of (off c k b s l (bad .0) (bad .1)))))
@@ -304,7 +336,7 @@ refusal c k b (s ∷ l) f g h some e =
       from = omega arith;
       there = ap (λ j. drop j (s ∷ l)) m ∙ r .there;
       taken = ap (λ j. take j (s ∷ l)) m ∙ ap (λ x. s ∷ x) (r .taken);
-      built = next (fits-allowed b s fits) (subst (λ p. Builds p (r .before) (record { in-use = r .used; joins = joined g })) (sym (part-after b s)) (r .built));
+      built = next (fits-allowed b s fits) (subst (λ p. Builds p (r .before) (record { in-use = r .used; joins = joined g })) (sym (part-after b s fits)) (r .built));
       first = r .first;
     })
     (λ bad.
@@ -323,6 +355,59 @@ refusal c k b (s ∷ l) f g h some e =
       built = subst (λ x. Builds (part-of b) [] (record { in-use = b .used; joins = joined x })) (ap graph-of z) done;
       first = ap (λ x. refused-first (conditions c (b .used) x s)) (sym (ap graph-of z)) ∙ sym (step-numbered c k b s) ∙ ap numbered told;
     })
+    (cases-answer (step-answer c k b s))
+
+-- ---- all steps taken, and refused at the close
+
+record Unclosed (b : Building) (l : List Step) (x : ℕ) (g : Graph) : Type 0 where
+  used : ℕ → Bool
+  built : Builds (part-of b) l (record { in-use = used; joins = joined g })
+  below : x < g .tables
+  lowest : Lowest (λ y. not (used y)) 0 x
+
+unclosed : (c k : ℕ) (b : Building) (l : List Step) (x : ℕ) (g : Graph) → 1 ≤ k
+    → steps-from c k b l ≡ record { told = Err (Unused x); graph = g } → Unclosed b l x g
+unclosed c k b [] x g some e =
+    let z = sym (at-end c k b) ∙ e in
+    let r = closing 0 (b .graph .tables) (b .used) (Unused x) (ap told-of z) in
+    let same : r .table ≡ x = let i : Unused x ≡ Unused (r .table) = r .is in cc in
+    let left : b .graph ≡ g = ap graph-of z in
+    let low : r .table < 0 + b .graph .tables = r .below in
+    let many : b .graph .tables ≡ g .tables = ap table-count left in
+    record {
+      used = b .used;
+      built = subst (λ y. Builds (part-of b) [] (record { in-use = b .used; joins = joined y })) left done;
+      below = omega arith;
+      lowest = subst (λ y. Lowest (λ y′. not (b .used y′)) 0 y) same (r .lowest);
+    }
+unclosed c k b (s ∷ l) x g some e =
+    ⊎-elim
+    (λ ok.
+    let fits = answer-fits c k b s ok .0 in
+    let r = unclosed c (k + 1) (step-after b s) l x g (omega arith) (sym (on c k b s l ok) ∙ e) in
+    record {
+      used = r .used;
+      built = next (fits-allowed b s fits)
+          (subst (λ p. Builds p l (record { in-use = r .used; joins = joined g })) (sym (part-after b s fits)) (r .built));
+      below = r .below;
+      lowest = r .lowest;
+    })
+    (λ bad.
+    let at : 0 ≡ k = step-step c k b s (Unused x) (bad .1 ∙ ap told-of (sym (off c k b s l (bad .0) (bad .1)) ∙ e)) in
+    absurd (omega arith))
+    (cases-answer (step-answer c k b s))
+
+-- a refusal that names no step, where the triangle was laid, is the close's
+only-close : (c k : ℕ) (b : Building) (l : List Step) (f : ReplayFault) → 1 ≤ k → steps-from c k b l .told ≡ Err f → replay-step f ≡ 0 → (x : ℕ) × (f ≡ Unused x)
+only-close c k b [] f some e none =
+    let r = closing 0 (b .graph .tables) (b .used) f (sym (ap told-of (at-end c k b)) ∙ e) in
+    (r .table, r .is)
+only-close c k b (s ∷ l) f some e none =
+    ⊎-elim
+    (λ ok. only-close c (k + 1) (step-after b s) l f (omega arith) (sym (ap told-of (on c k b s l ok)) ∙ e) none)
+    (λ bad.
+    let at : replay-step f ≡ k = step-step c k b s f (bad .1 ∙ sym (ap told-of (off c k b s l (bad .0) (bad .1))) ∙ e) in
+    absurd (omega arith))
     (cases-answer (step-answer c k b s))
 
 -- ---- the start
@@ -360,6 +445,16 @@ start-step c m t f e =
     first-step 0
     ((some-join m, HasJoins) ∷ (not (ltb (t .a) (t .b) && (ltb (t .b) (t .c) && is-table m (t .c))), NotTriangle) ∷ (ltb c 3, Store 0 (Full c)) ∷ [])
     (refl, (refl, (refl, tt))) f e
+
+-- a refusal of the triangle is none of the close
+start-used : (c : ℕ) (m : Graph) (t : Triangle) (x : ℕ) → start-answer m c t ≡ Err (Unused x) → ⊥
+start-used c m t x = never (some-join m) (not (ltb (t .a) (t .b) && (ltb (t .b) (t .c) && is-table m (t .c)))) (ltb c 3)
+  where
+    never : (a b d : Bool) → refused-first ((a, HasJoins) ∷ (b, NotTriangle) ∷ (d, Store 0 (Full c)) ∷ []) ≡ Err (Unused x) → ⊥
+    never true b d e = let z : _≡_ {A = ℕ} 0 1 = cc in omega arith
+    never false true d e = let z : _≡_ {A = ℕ} 0 1 = cc in omega arith
+    never false false true e = let z : _≡_ {A = ℕ} 0 1 = cc in omega arith
+    never false false false e = ok-err (Unused x) e
 
 pub replayed-tables : (c : ℕ) (m : Graph) (t : Triangle) (l : List Step) → replayed c m t l .graph .tables ≡ m .tables
 replayed-tables c m t l =
@@ -443,7 +538,30 @@ module _ (c : ℕ) (m : Graph) (t : Triangle) (l : List Step) (s : Simple m) whe
       absurd (omega arith))
       (cases-answer (start-answer m c t))
 
-  -- the three, of what a call answers and leaves
+  unused-last : Unused-told m t l (replayed c m t l .told) (replayed c m t l .graph)
+  unused-last none x e =
+      ⊎-elim
+      (λ ok.
+      let w : replayed c m t l ≡ record { told = Err (Unused x); graph = replayed c m t l .graph } = λ i. record { told = e i; graph = replayed c m t l .graph } in
+      let r = unclosed c 1 (started m t) l x (replayed c m t l .graph) (omega arith) (sym (begun c m t l ok) ∙ w) in (
+        r .used,
+        subst (λ p. Builds p l (record { in-use = r .used; joins = joined (replayed c m t l .graph) })) (started-part m t none) (r .built),
+        r .below,
+        r .lowest,
+      ))
+      (λ bad. absurd (start-used c m t x (bad .1 ∙ sym (ap told-of (not-begun c m t l (bad .0) (bad .1))) ∙ e)))
+      (cases-answer (start-answer m c t))
+
+  start-left : Start-told m (replayed c m t l .told) (replayed c m t l .graph)
+  start-left f e none other =
+      ⊎-elim
+      (λ ok.
+      let u = only-close c 1 (started m t) l f (omega arith) (sym (ap told-of (begun c m t l ok)) ∙ e) none in
+      absurd (other (u .0) (u .1)))
+      (λ bad. ap graph-of (not-begun c m t l (bad .0) (bad .1)))
+      (cases-answer (start-answer m c t))
+
+  -- the five, of what a call answers and leaves
   module _ (r : Result Unit ReplayFault) (g : Graph) (answer : r ≡ replayed c m t l .told) (meant : g ≡ replayed c m t l .graph) where
     pub accepted-exactly : Accepted-exactly m t l r g
     accepted-exactly none = (
@@ -460,3 +578,9 @@ module _ (c : ℕ) (m : Graph) (t : Triangle) (l : List Step) (s : Simple m) whe
     pub refused-at-first : Refused-at-first c m t l r g
     refused-at-first none f e some =
         subst (λ x. Refused-at-first c m t l r x) (sym meant) (subst (λ x. Refused-at-first c m t l x (replayed c m t l .graph)) (sym answer) refused-first-step) none f e some
+
+    pub unused-told : Unused-told m t l r g
+    unused-told = subst (λ x. Unused-told m t l r x) (sym meant) (subst (λ x. Unused-told m t l x (replayed c m t l .graph)) (sym answer) unused-last)
+
+    pub start-told : Start-told m r g
+    start-told = subst (λ x. Start-told m r x) (sym meant) (subst (λ x. Start-told m x (replayed c m t l .graph)) (sym answer) start-left)

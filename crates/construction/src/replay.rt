@@ -9,7 +9,7 @@ ghost use Prim.Native.Nat.{ℕ, _≤_, _<_};
 ghost use Rattle.theory.specs.Graph.{joined as joins, table-count, some-join};
 ghost use Rattle.theory.specs.declared.step.Step.the-variants.{Edge, Node};
 ghost use Rattle.construction.specs.Replay.{start-answer, started, step-answer, step-after, close-from, replayed};
-ghost use Rattle.construction.specs.Law.{Accepted-exactly, Accepted-with-room, Refused-at-first};
+ghost use Rattle.construction.specs.Law.{Accepted-exactly, Accepted-with-room, Refused-at-first, Unused-told, Start-told};
 ghost use Rattle.construction.specs.Inner.{flagged, under-way, left, Within-use, triangle-answer, corners, used-answer, edge-used, named-answer, node-judged, held-answer, splice-answer, spliced};
 use refusals::fault::AtStep;
 use refusals::fault::ReplayFault;
@@ -249,12 +249,14 @@ fn close(used: &[bool; 64], tables: u32) -> Result<(), ReplayFault>
 /// Plays a build list into a graph, up to the first refusal. A refused step leaves the graph as the steps before it made
 /// it, and a refused triangle leaves it as it was.
 ///
-/// For every graph, triangle and list, `answer` says what is answered, `meant` what graph is left, and `same` that its
-/// capacity stays. For a graph that has no joins, the rest says what this amounts to:
+/// For every graph, triangle and list, `answer` says what is answered, `meant` what graph is left, `same` that its
+/// capacity stays, and `start` that a refused triangle leaves the graph as it was. For a graph that has no joins, the rest
+/// says what this amounts to:
 /// `accepted`, that the list is accepted exactly when it is a legal build of the graph that is left;
 /// `room`, that where the capacity suffices for all of its joins it is accepted exactly when it is a legal build of some
 /// graph of as many tables;
-/// `refused`, that a refused step is the first that is not allowed, and is refused for the first condition that it fails.
+/// `refused`, that a refused step is the first that is not allowed, and is refused for the first condition that it fails;
+/// `unused`, that a refusal at the close comes after all steps, each allowed, and names the lowest table not in use.
 pub fn replay<G: EditableGraph>(
     graph: &mut G,
     triangle: Triangle,
@@ -266,6 +268,8 @@ pub fn replay<G: EditableGraph>(
     ensures accepted { λ r. ⌜ Accepted-exactly (G·ReadableGraph .meaning (now (graph .entry))) triangle (now (steps .entry)) r (G·ReadableGraph .meaning (now (graph .exit))) ⌝ }
     ensures room { λ r. ⌜ Accepted-with-room (limit (now (graph .entry))) (G·ReadableGraph .meaning (now (graph .entry))) triangle (now (steps .entry)) r ⌝ }
     ensures refused { λ r. ⌜ Refused-at-first (limit (now (graph .entry))) (G·ReadableGraph .meaning (now (graph .entry))) triangle (now (steps .entry)) r (G·ReadableGraph .meaning (now (graph .exit))) ⌝ }
+    ensures unused { λ r. ⌜ Unused-told (G·ReadableGraph .meaning (now (graph .entry))) triangle (now (steps .entry)) r (G·ReadableGraph .meaning (now (graph .exit))) ⌝ }
+    ensures start { λ r. ⌜ Start-told (G·ReadableGraph .meaning (now (graph .entry))) r (G·ReadableGraph .meaning (now (graph .exit))) ⌝ }
 {
     start(graph, triangle)?;
     let mut used = seated(triangle);

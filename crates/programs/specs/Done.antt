@@ -3,8 +3,10 @@
 use mathlib.Core.Path.{_≡_}
 use mathlib.Core.Logic.{_⊎_}
 use mathlib.Core.List.{List}
-use Prim.Native.Nat.{ℕ, _+_, _≤_}
+use Prim.Native.Nat.{ℕ, _+_, _≤_, _<_}
 use lib.ListN.{length, take}
+use Rattle.std.specs.declared.option.Option.{Option}
+use Rattle.std.specs.declared.option.Option.the-variants.{Some, None}
 use Rattle.writer.specs.Laid.{laid}
 use Rattle.texts.specs.List-read.{list-read}
 use Rattle.theory.specs.declared.step.Step.{Step}
@@ -27,3 +29,8 @@ pub record Done (text : List ℕ) (len : ℕ) (steps : List Step) (r : ℕ) (tex
   pub filled : steps′ ≡ list-read (looked-at text len) 0 steps .records
   -- where there is room, a graph is printed exactly where the text read is that of a legal build, and then the graph built
   pub law : Room len (length text) → Replays (looked-at text len) (take r text′)
+
+-- the same of a page of 4,096 bytes: where the graph's text, 34 bytes longer than the list's, may not fit, nothing is done
+abbrev pub Paged : List ℕ → ℕ → List Step → Option ℕ → List ℕ → List Step → Type 0
+Paged page len steps (Some r) page′ steps′ = (len + 34 ≤ 4096) × Done page len steps r page′ steps′
+Paged page len steps None page′ steps′ = (4096 < len + 34) × (page′ ≡ page) × (steps′ ≡ steps)

@@ -10,7 +10,7 @@ ghost use Rattle.writer.specs.Laid.{laid};
 ghost use Rattle.texts.specs.List-read.{list-read};
 ghost use Rattle.programs.specs.Fault.{fault-place, replay-place};
 ghost use Rattle.programs.specs.Replay.{graph-of, meant, left, replay-told, shown};
-ghost use Rattle.programs.specs.Done.{Done};
+ghost use Rattle.programs.specs.Done.{Done, Paged};
 use bits::table::BitTable;
 use bits::table::BitTableEditable;
 use bits::table::BitTableReadable;
@@ -85,4 +85,14 @@ pub fn replay_text(text: &mut [u8], len: usize, steps: &mut [Step; 2013]) -> usi
         Ok(graph) => lay_graph(&graph, text),
         Err(fault) => lay_refusal(fault, text),
     }
+}
+
+/// The same in a page, where what was read and what is printed fit into it; none, and nothing changed, where they may not.
+pub fn replay_page(page: &mut [u8; 4096], len: usize, steps: &mut [Step; 2013]) -> Option<usize>
+    ensures { λ r. ⌜ Paged (now (page .entry)) len (now (steps .entry)) r (now (page .exit)) (now (steps .exit)) ⌝ }
+{
+    if len > 4062 {
+        return None;
+    }
+    Some(replay_text(page, len, steps))
 }

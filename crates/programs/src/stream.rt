@@ -1,6 +1,7 @@
 //! Reading standard input whole. What a stream gives no contract can say; here is only that a count stays within its buffer.
-ghost use Prim.Native.Nat.{_≤_};
-ghost use lib.ListN.{length};
+ghost use mathlib.Core.Path.{_≡_};
+ghost use Prim.Native.Nat.{min, _≤_};
+ghost use lib.ListN.{length, take};
 ghost use Rattle.std.specs.Vec.{made};
 use std::io;
 use std::io::Read;
@@ -38,7 +39,10 @@ fn drop_rest<R: Read>(input: &mut R) -> io::Result<()> {
 /// Reads on where `len` bytes have been read, up to the input's end or the text's, and drops what the text cannot hold; how
 /// many bytes it holds then.
 pub fn read_rest<R: Read>(input: &mut R, text: &mut [u8], len: usize) -> io::Result<usize>
-    ensures { λ r. ⌜ made r (λ n. n ≤ length (now (text .exit))) ⌝ }
+    ensures within { λ r. ⌜ made r (λ n. n ≤ length (now (text .exit))) ⌝ }
+    // no fewer than before, and what was read before stays
+    ensures grows { λ r. ⌜ made r (λ n. min len (length (now (text .entry))) ≤ n) ⌝ }
+    ensures kept { λ _. ⌜ take len (now (text .exit)) ≡ take len (now (text .entry)) ⌝ }
 {
     if len >= text.len() {
         drop_rest(input)?;

@@ -1,5 +1,8 @@
 //! `replay`: reads a build list from standard input, plays it back, and prints the join graph as G and J lines, or one X
 //! line. All that matters is in the library; here is only reading and writing.
+ghost use mathlib.Core.Path.{_≡_};
+ghost use lib.ListN.{take};
+use programs::replay::replay_page;
 use programs::replay::replay_text;
 use programs::stream::read_rest;
 use programs::stream::read_whole;
@@ -12,7 +15,9 @@ use std::io::Write;
 use theory::step::Step;
 
 /// Puts what was read into the longer text.
-fn take_over(text: &mut [u8; TEXT], page: &[u8; PAGE]) {
+fn take_over(text: &mut [u8; TEXT], page: &[u8; PAGE])
+    ensures { λ _. ⌜ take 4096 (now (text .exit)) ≡ now (page .entry) ⌝ }
+{
     text[0..PAGE].copy_from_slice(page);
 }
 
@@ -42,11 +47,8 @@ fn main(rt: LibcRuntime) -> io::Result<()> {
     let mut input = rt.stdin();
     let mut output = rt.stdout();
     let len = read_whole(&mut input, &mut page)?;
-    // a graph's text has 34 bytes more than its list's
-    if len + 34 <= PAGE {
-        let n = replay_text(&mut page, len, &mut steps);
-        output.write_all(&page[0..n])
-    } else {
-        replay_long(&mut input, &mut output, &page, len, &mut steps)
+    match replay_page(&mut page, len, &mut steps) {
+        Some(n) => output.write_all(&page[0..n]),
+        None => replay_long(&mut input, &mut output, &page, len, &mut steps),
     }
 }

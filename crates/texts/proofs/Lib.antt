@@ -3,6 +3,8 @@ pub mod Steps
 pub mod Laying
 pub mod Writing
 pub mod Stands
+pub mod Able
 pub mod Lists
+pub mod Refused
 pub mod Told
 pub mod Back

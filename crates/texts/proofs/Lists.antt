@@ -34,9 +34,11 @@ use Rattle.texts.specs.Fault.{next, in-form}
 use Rattle.texts.specs.List-law.{List-stands, Same-text}
 use Rattle.texts.specs.List-read.{outside-limits, head-values, head-of, head-at, triangle-of, triangle-at, step-of, step-at, Steps-told, onward, steps-read, heading, list-after, list-with, list-headed, list-read}
 use Rattle.texts.specs.List-text.{head-line, triangle-line, step-line, step-text, list-text, Each-fits, none, more, Listable}
+use Rattle.texts.specs.List-write.{list-write-answer}
 use Rattle.texts.specs.declared.fault.TextFault.{TextFault}
 use Rattle.texts.specs.declared.fault.TextFault.the-variants.{Misplaced, OutOfLimits, TooFew}
 use Rattle.texts.specs.declared.list.Head.{Head}
+use Rattle.texts.proofs.Able.{writes-able}
 use Rattle.texts.proofs.Laying.{put-more}
 use Rattle.texts.proofs.Stands.{Stands, line-stands, agrees-part, list-text-length, list-agrees}
 
@@ -188,12 +190,16 @@ module _ (text : List ℕ) where
         (subst (λ m. Agrees (joined step-text ss) text (at + 34) (17 * m)) (sym (rest .many)) (rest .agrees)) in
         let long = list-text-length n t ss in
         let many = rest .many in
+        let able : Listable n t ss = record { least = limits .least; most = limits .most; few = omega arith; triangle-fits = two .written .fits; steps-fit = rest .fit } in
         record {
           ends = refl;
           inside = rest .inside;
           room = limits .roomy;
           stands = agrees-part (list-text n t ss) text at (34 + 17 * k) (omega arith) (omega arith) (λ j b. whole j (omega arith)) ∙ ap (list-text n t) (sym front);
-          listable = subst (λ ts. Listable n t ts) (sym front) (record { least = limits .least; most = limits .most; few = omega arith; triangle-fits = two .written .fits; steps-fit = rest .fit });
+          listable = subst (λ ts. Listable n t ts) (sym front) able;
+          writes = λ b h.
+              subst (λ ts. list-write-answer n t ts b ≡ Ok (34 + 17 * k)) (sym front)
+              (writes-able n t ss b able (omega arith) ∙ ap (λ m. Ok (34 + 17 * m)) many);
           others = ap (drop k) after-is ∙ drop-at ss (drop k l) k (rest .many);
         }
 

@@ -8,12 +8,13 @@ use Rattle.std.specs.declared.result.Result.the-variants.{Ok, Err}
 use Rattle.theory.specs.declared.step.Step.{Step}
 use Rattle.theory.specs.declared.step.Triangle.{Triangle}
 use Rattle.texts.specs.Fault.{next}
-use Rattle.texts.specs.List-law.{Same-text}
+use Rattle.texts.specs.List-law.{Same-text, Refused-text}
 use Rattle.texts.specs.List-read.{head-at, triangle-at, steps-read, Steps-told, List-told, heading, list-after, list-with, list-headed, list-read}
 use Rattle.texts.specs.declared.fault.TextFault.{TextFault}
 use Rattle.texts.specs.declared.list.Head.{Head}
 use Rattle.texts.specs.declared.list.Heading.{Heading}
 use Rattle.texts.proofs.Lists.{same-text}
+use Rattle.texts.proofs.Refused.{refused-text}
 
 module _ (text : List ℕ) (at : ℕ) (l : List Step) where
   after-head : Head → List-told
@@ -39,6 +40,7 @@ module _ (text : List ℕ) (at : ℕ) (l : List Step) where
     pub answer : r ≡ list-read text at l .told
     pub filled : after ≡ list-read text at l .records
     pub same : Same-text text at l after r
+    pub refused : Refused-text text at (length l) r
 
   pub read-so : (r : Result Heading TextFault) (after : List Step) (q : List-told) → list-read text at l ≡ q → r ≡ q .told → after ≡ q .records → Read-so r after
   read-so r after q whole told records =
@@ -48,4 +50,5 @@ module _ (text : List ℕ) (at : ℕ) (l : List Step) where
         answer = a;
         filled = f;
         same = subst (λ s. Same-text text at l after s) (sym a) (subst (λ s. Same-text text at l s (list-read text at l .told)) (sym f) (same-text text at l));
+        refused = subst (λ s. Refused-text text at (length l) s) (sym a) (refused-text text at l);
       }

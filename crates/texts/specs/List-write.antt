@@ -1,6 +1,6 @@
 -- Writing a build list: the refusal, or the text laid over the bytes lent.
 --
---   over f                     a number of the fields f is over 99,999
+--   over v                     a number is over 99,999
 --   steps-over at l            the offset of the first step line, the first of them at `at`, that has such a number
 --   list-length l              the bytes of a list's text
 --   list-write-answer n t l b  17 with the line's offset, 9 with the bytes needed where b are lent, or the bytes written

@@ -1,4 +1,4 @@
-//! Whole texts: a build list read and written, a graph written as its joins, and the line of a refusal.
+//! The text of a build list, read and written, and why a text is refused.
 pub mod fault;
 pub mod list;
 pub mod list_write;

@@ -6,7 +6,7 @@ ghost use Rattle.std.specs.Vec.{made, refused};
 ghost use Rattle.lines.specs.Read.{line-at};
 ghost use Rattle.texts.specs.Fault.{in-form, text-value};
 ghost use Rattle.texts.specs.List-read.{head-at, triangle-at, step-at, steps-read, list-read, end-at};
-ghost use Rattle.texts.specs.List-law.{Same-text};
+ghost use Rattle.texts.specs.List-law.{Same-text, Refused-text, Follows};
 use columns::read::read_line;
 use lines::line::Fields;
 use lines::line::Line;
@@ -114,6 +114,8 @@ pub fn read_list(text: &[u8], at: usize, records: &mut [Step]) -> Result<Heading
     ensures filled { λ _. ⌜ now (records .exit) ≡ list-read (now (text .entry)) at (now (records .entry)) .records ⌝ }
     // a list that is accepted stands there as it would be written
     ensures same { λ r. ⌜ Same-text (now (text .entry)) at (now (records .entry)) (now (records .exit)) r ⌝ }
+    // one that is refused has the fault told, and nothing is amiss before it
+    ensures refused { λ r. ⌜ Refused-text (now (text .entry)) at (length (now (records .entry))) r ⌝ }
     // no place or amount named is far beyond the text
     ensures near { λ r. ⌜ refused r (λ f. text-value f ≤ at + length (now (text .entry)) + 2013) ⌝ }
 {
@@ -126,6 +128,8 @@ pub fn read_list(text: &[u8], at: usize, records: &mut [Step]) -> Result<Heading
 /// Nothing may follow at `at`: 15 where what follows is not in form, else 16.
 pub fn check_end(text: &[u8], at: usize) -> Result<(), TextFault>
     ensures answer { λ r. ⌜ r ≡ end-at (now (text .entry)) at ⌝ }
+    // accepted, the text ends there; refused, something follows, a line in form where 16 is told
+    ensures follows { λ r. ⌜ Follows (now (text .entry)) at r ⌝ }
     ensures near { λ r. ⌜ refused r (λ f. text-value f ≤ at + 16) ⌝ }
 {
     if at == text.len() {

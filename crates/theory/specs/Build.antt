@@ -51,7 +51,7 @@ abbrev pub after : Step → Part → Part
 after (Edge v w) p = record { in-use = p .in-use; joins = with-join v w (p .joins) }
 after (Node u v w) p = record {
   in-use = with-table u (p .in-use);
-  joins = with-join u w (without-join v w (with-join u v (p .joins)));
+  joins = with-join u w (with-join u v (without-join v w (p .joins)));
 }
 
 pub data Builds : Part → List Step → Part → Type 0 where

@@ -8,7 +8,7 @@ use Rattle.construction.specs.Replay.{Played, steps-from, close-from}
 use Rattle.construction.specs.Inner.{flagged, under-way}
 use Rattle.construction.proofs.Inner.{startable}
 use Rattle.construction.proofs.Plays.{start-off, entered, entered-going, step-on, step-off, still-going, ends}
-use Rattle.construction.proofs.Laws.{accepted-exactly, accepted-with-room, refused-at-first}
+use Rattle.construction.proofs.Laws.{accepted-exactly, accepted-with-room, refused-at-first, unused-told, start-told}
 use Rattle.construction.proofs.replay.replay.Needs as need
 
 -- the triangle is refused
@@ -30,6 +30,10 @@ returns-in-Break-start g c =
       room = accepted-with-room (n (c .args .graph .now)) (m (c .args .graph .now)) (c .args .triangle) (c .args .steps .now) s
           (c .from-residual .result) (m (c .start .last .graph)) (both .0) (both .1);
       refused = refused-at-first (n (c .args .graph .now)) (m (c .args .graph .now)) (c .args .triangle) (c .args .steps .now) s
+          (c .from-residual .result) (m (c .start .last .graph)) (both .0) (both .1);
+      unused = unused-told (n (c .args .graph .now)) (m (c .args .graph .now)) (c .args .triangle) (c .args .steps .now) s
+          (c .from-residual .result) (m (c .start .last .graph)) (both .0) (both .1);
+      start = start-told (n (c .args .graph .now)) (m (c .args .graph .now)) (c .args .triangle) (c .args .steps .now) s
           (c .from-residual .result) (m (c .start .last .graph)) (both .0) (both .1);
     }
 
@@ -99,6 +103,10 @@ returns-in-Break-take-step g c =
           (c .from-residual-in-Break-take-step .result) (m (c .take-step .last .graph)) told left;
       refused = refused-at-first (n (c .args .graph .now)) (m (c .args .graph .now)) (c .args .triangle) (c .args .steps .now) s
           (c .from-residual-in-Break-take-step .result) (m (c .take-step .last .graph)) told left;
+      unused = unused-told (n (c .args .graph .now)) (m (c .args .graph .now)) (c .args .triangle) (c .args .steps .now) s
+          (c .from-residual-in-Break-take-step .result) (m (c .take-step .last .graph)) told left;
+      start = start-told (n (c .args .graph .now)) (m (c .args .graph .now)) (c .args .triangle) (c .args .steps .now) s
+          (c .from-residual-in-Break-take-step .result) (m (c .take-step .last .graph)) told left;
     }
 
 -- all steps are taken, and the close answers
@@ -123,5 +131,9 @@ returns g c =
       room = accepted-with-room (n (c .args .graph .now)) (m (c .args .graph .now)) (c .args .triangle) (c .args .steps .now) s
           (c .close .result) (m (c .loop-i .graph)) told left;
       refused = refused-at-first (n (c .args .graph .now)) (m (c .args .graph .now)) (c .args .triangle) (c .args .steps .now) s
+          (c .close .result) (m (c .loop-i .graph)) told left;
+      unused = unused-told (n (c .args .graph .now)) (m (c .args .graph .now)) (c .args .triangle) (c .args .steps .now) s
+          (c .close .result) (m (c .loop-i .graph)) told left;
+      start = start-told (n (c .args .graph .now)) (m (c .args .graph .now)) (c .args .triangle) (c .args .steps .now) s
           (c .close .result) (m (c .loop-i .graph)) told left;
     }

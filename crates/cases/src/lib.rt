@@ -1,0 +1,8 @@
+//! Tests whose expected values our own code did not produce: they were worked out by hand, or by a model in another
+//! language.
+#[cfg(test)]
+mod calls;
+#[cfg(test)]
+mod narrow;
+#[cfg(test)]
+mod program;
