@@ -63,10 +63,10 @@ count-step : (text : List ℕ) (i j k : ℕ) (s : Bool × ℕ) → j ≡ i + 1 �
 unfolding count-from
 count-step text i j k s e =
     three-ways
-      (is-digit (byte text i) && not (eqb (s .1) 0 && (eqb (byte text i) 48 && (s .0 || not (eqb k 0)))))
-      (blank-may k (s .1) (byte text i) && not (s .0))
-      (eqb (byte text i) 45 && (not (s .0) && (eqb (s .1) 0 && not (eqb k 0))))
-      (s .0, s .1 * 10 + (byte text i - 48)) (false, s .1) (true, s .1) i (λ (w : Bool × ℕ). count-from text (i + 1) k (w .0) (w .1))
+    (is-digit (byte text i) && not (eqb (s .1) 0 && (eqb (byte text i) 48 && (s .0 || not (eqb k 0)))))
+    (blank-may k (s .1) (byte text i) && not (s .0))
+    (eqb (byte text i) 45 && (not (s .0) && (eqb (s .1) 0 && not (eqb k 0))))
+    (s .0, s .1 * 10 + (byte text i - 48)) (false, s .1) (true, s .1) i (λ (w : Bool × ℕ). count-from text (i + 1) k (w .0) (w .1))
     ∙ ap (λ n. then (mark-at text i k s) (λ (w : Bool × ℕ). count-from text n k (w .0) (w .1))) (sym e)
 
 count-done : (text : List ℕ) (i : ℕ) (s : Bool × ℕ) → count-from text i 0 (s .0) (s .1) ≡ Ok (count-of s)
@@ -87,14 +87,14 @@ pub marks-count : (text : List ℕ) (i : ℕ) → then (marks-at text i) (λ s. 
 unfolding told
 marks-count text i = sym
     (count-then text i (i + 1) 9 (false, 0) _ refl (λ a.
-     count-then text (i + 1) (i + 2) 8 a _ (omega arith) (λ b.
-     count-then text (i + 2) (i + 3) 7 b _ (omega arith) (λ c.
-     count-then text (i + 3) (i + 4) 6 c _ (omega arith) (λ d.
-     count-then text (i + 4) (i + 5) 5 d _ (omega arith) (λ e.
-     count-then text (i + 5) (i + 6) 4 e _ (omega arith) (λ f.
-     count-then text (i + 6) (i + 7) 3 f _ (omega arith) (λ g.
-     count-then text (i + 7) (i + 8) 2 g _ (omega arith) (λ h.
-     count-then text (i + 8) (i + 9) 1 h _ (omega arith) (λ j. count-last text (i + 9) j))))))))))
+    count-then text (i + 1) (i + 2) 8 a _ (omega arith) (λ b.
+    count-then text (i + 2) (i + 3) 7 b _ (omega arith) (λ c.
+    count-then text (i + 3) (i + 4) 6 c _ (omega arith) (λ d.
+    count-then text (i + 4) (i + 5) 5 d _ (omega arith) (λ e.
+    count-then text (i + 5) (i + 6) 4 e _ (omega arith) (λ f.
+    count-then text (i + 6) (i + 7) 3 f _ (omega arith) (λ g.
+    count-then text (i + 7) (i + 8) 2 g _ (omega arith) (λ h.
+    count-then text (i + 8) (i + 9) 1 h _ (omega arith) (λ j. count-last text (i + 9) j))))))))))
 
 blank-step : (text : List ℕ) (i j k : ℕ) → j ≡ i + 1 → blank-from text i (suc k) ≡ then (blank-at text i) (λ _. blank-from text j k)
 unfolding blank-from

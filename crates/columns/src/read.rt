@@ -79,7 +79,11 @@ fn number(text: &[u8], at: usize) -> Result<u32, usize>
     requires { ⌜ at ≤ length (now text) + 16 ⌝ }
     ensures { λ r. ⌜ r ≡ places-at (now (text .entry)) at ⌝ }
 {
-    if is_short(text, at) { last_places(text, at) } else { places(text, at) }
+    if is_short(text, at) {
+        last_places(text, at)
+    } else {
+        places(text, at)
+    }
 }
 
 /// One place of a row count: whether a minus sign has been read, and the value so far.
@@ -159,7 +163,11 @@ fn unused(text: &[u8], at: usize) -> Result<(), usize>
     requires { ⌜ at ≤ length (now text) + 16 ⌝ }
     ensures { λ r. ⌜ r ≡ blanks-at (now (text .entry)) at ⌝ }
 {
-    if is_unused(text, at) { Ok(()) } else { blanks(text, at) }
+    if is_unused(text, at) {
+        Ok(())
+    } else {
+        blanks(text, at)
+    }
 }
 
 /// A value with its sign.
@@ -287,5 +295,9 @@ pub fn read_line(text: &[u8], at: usize) -> Result<Line, usize>
     // a line that is read lies in the text
     ensures within { λ r. ⌜ made r (λ _. at + 17 ≤ length (now (text .entry))) ⌝ }
 {
-    if at < text.len() { line(text, at) } else { Err(at) }
+    if at < text.len() {
+        line(text, at)
+    } else {
+        Err(at)
+    }
 }

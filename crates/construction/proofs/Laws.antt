@@ -506,7 +506,7 @@ module _ (c : ℕ) (m : Graph) (t : Triangle) (l : List Step) (s : Simple m) whe
       let built = subst (λ p. Builds p l (whole (replayed c m t l .graph))) (sym (started-part m t none)) (legal .1) in
       let three : size (started m t .graph) ≡ 3 = started-size m 3 t s h in
       let many : size (replayed c m t l .graph) ≡ size (started m t .graph) + length l
-          = built-size l (started m t) (replayed c m t l .graph) (replayed-tables c m t l) (started-going m 3 t s h) built in
+      = built-size l (started m t) (replayed c m t l .graph) (replayed-tables c m t l) (started-going m 3 t s h) built in
       omega arith
 
   room-accepted : m ≡ no-joins (table-count m) → 3 + length l ≤ c → (h : Graph) → table-count h ≡ table-count m → Legal-build h t l → replayed c m t l .told ≡ Ok tt

@@ -11,13 +11,13 @@ ghost use Rattle.theory.specs.declared.step.Step.the-variants.{Edge, Node};
 ghost use Rattle.construction.specs.Replay.{start-answer, started, step-answer, step-after, close-from, replayed};
 ghost use Rattle.construction.specs.Law.{Accepted-exactly, Accepted-with-room, Refused-at-first, Unused-told, Start-told};
 ghost use Rattle.construction.specs.Inner.{flagged, under-way, left, Within-use, triangle-answer, corners, used-answer, edge-used, named-answer, node-judged, held-answer, splice-answer, spliced};
+use graph::fault::StoreFault;
+use graph::graph::EditableGraph;
+use graph::graph::ReadableGraph;
 use refusals::fault::AtStep;
 use refusals::fault::ReplayFault;
 use refusals::fault::ReplayFaultFromAtStep;
 use refusals::fault::at_step;
-use graph::fault::StoreFault;
-use graph::graph::EditableGraph;
-use graph::graph::ReadableGraph;
 use theory::step::Step;
 use theory::step::Triangle;
 

@@ -16,7 +16,7 @@ use Rattle.graph.specs.declared.fault.StoreFault.the-variants.{UnknownTable, S
 
 abbrev pub join-answer : Graph → ℕ → ℕ → ℕ → Result Unit StoreFault
 join-answer m capacity a b = refused-first
-    ( (not (is-table m a), UnknownTable a)
+    ((not (is-table m a), UnknownTable a)
     ∷ (not (is-table m b), UnknownTable b)
     ∷ (eqb a b, SameTable a)
     ∷ (joined m a b, AlreadyJoined a b)
@@ -25,7 +25,7 @@ join-answer m capacity a b = refused-first
 
 abbrev pub unjoin-answer : Graph → ℕ → ℕ → Result Unit StoreFault
 unjoin-answer m a b = refused-first
-    ( (not (is-table m a), UnknownTable a)
+    ((not (is-table m a), UnknownTable a)
     ∷ (not (is-table m b), UnknownTable b)
     ∷ (eqb a b, SameTable a)
     ∷ (not (joined m a b), NotJoined a b)

@@ -8,10 +8,10 @@ ghost use Rattle.theory.specs.Listing.{row-from, joins-of, Lists-joins};
 ghost use Rattle.lines.specs.Text.{line-text};
 ghost use Rattle.writer.specs.Laid.{laid};
 ghost use Rattle.prints.specs.Graph-text.{join-line, graph-answer, graph-written};
-use writer::line::put_first_two;
-use writer::line::put_last_two;
 use graph::graph::ReadableGraph;
 use texts::fault::TextFault;
+use writer::line::put_first_two;
+use writer::line::put_last_two;
 
 /// How many tables above `v` are joined with it.
 fn row_count<G: ReadableGraph>(graph: &G, v: u32) -> usize

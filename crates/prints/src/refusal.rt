@@ -2,8 +2,8 @@
 ghost use mathlib.Core.Path.{_≡_};
 ghost use lib.ListN.{length};
 ghost use Rattle.prints.specs.Refusal.{refusal-answer, refusal-written};
-use writer::line::put_three;
 use texts::fault::TextFault;
+use writer::line::put_three;
 
 /// Writes the X line of a refusal over the first bytes of `out`, and says how many they are. A refusal writes nothing.
 pub fn write_refusal(

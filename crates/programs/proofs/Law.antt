@@ -90,7 +90,7 @@ law-built text l g simple e =
     let able = stands .listable in
     let m = no-joins (clamped (h .tables)) in
     let n : table-count g ≡ h .tables =
-        sym (ap (λ x. table-count x) (a .left-graph)) ∙ replayed-tables 2016 m (h .triangle) steps ∙ unclamped (h .tables) (able .least) (able .most) in
+    sym (ap (λ x. table-count x) (a .left-graph)) ∙ replayed-tables 2016 m (h .triangle) steps ∙ unclamped (h .tables) (able .least) (able .most) in
     let long : 34 + 17 * h .steps ≡ length text = let e = stands .ends in let f = a .ended in omega arith in
     let whole : text ≡ list-text (h .tables) (h .triangle) steps = sym (take-all (34 + 17 * h .steps) text (omega arith)) ∙ stands .stands in
     record {
@@ -113,7 +113,7 @@ built-length text l g simple e =
     let b = law-built text l g simple e in
     let m = no-joins (clamped (h .tables)) in
     let many : size g ≡ 3 + length (b .steps) =
-        sym (ap size (a .left-graph)) ∙ accepted-size 2016 m (h .triangle) (b .steps) (clamped-simple (h .tables)) refl (a .told) in
+    sym (ap size (a .left-graph)) ∙ accepted-size 2016 m (h .triangle) (b .steps) (clamped-simple (h .tables)) refl (a .told) in
     let long : length text ≡ list-length (b .steps) = ap length (b .reads) ∙ list-text-length (table-count g) (b .triangle) (b .steps) in
     omega arith
 
@@ -141,7 +141,7 @@ module _ (text : List ℕ) (l : List Step) (room : 2013 ≤ length l) (g : Graph
   plays =
       let few : length s + 3 ≤ 2016 = able .few in
       accepted-with-room 2016 m t s (clamped-simple (table-count g)) (replayed 2016 m t s .told) (replayed 2016 m t s .graph) refl refl refl (omega arith) .1
-        (g, sym (unclamped (table-count g) (able .least) (able .most)), legal)
+      (g, sym (unclamped (table-count g) (able .least) (able .most)), legal)
 
   is-accepted : replay-told text l ≡ Ok (replayed 2016 m t s .graph)
   unfolding the-heading

@@ -63,7 +63,7 @@ unfolding steps-from
 steps-named c k b [] = let h : named (close-answer b) ≤ 0 + table-count (b .graph) = close-named 0 (table-count (b .graph)) (b .used) in omega arith
 steps-named c k b (s ∷ l) =
     onward-named (step-answer c k b s) (b .graph) (steps-from c (k + 1) (step-after b s) l) (table-count (b .graph)) (step-named c k b s)
-      (subst (λ n. named (steps-from c (k + 1) (step-after b s) l .told) ≤ n) (same-tables b s) (steps-named c (k + 1) (step-after b s) l))
+    (subst (λ n. named (steps-from c (k + 1) (step-after b s) l .told) ≤ n) (same-tables b s) (steps-named c (k + 1) (step-after b s) l))
 
 replay-named : (c : ℕ) (m : Graph) (t : Triangle) (l : List Step) → named (replayed c m t l .told) ≤ table-count m
 unfolding replayed
@@ -86,12 +86,12 @@ replay-near c n t l f s told =
     let parts = place-parts f in
     let table : table-named f ≤ n = subst (λ r. named r ≤ n) told (replay-named c m t l) in
     let step : replay-step f ≤ length l =
-        ⊎-elim
-          (λ (h : 0 < replay-step f).
-            let r = refused-at-first c m t l s (replayed c m t l .told) (replayed c m t l .graph) refl refl refl f told (omega arith) in
-            let long : length (drop (replay-step f - 1) l) ≡ suc (length (r .2)) = ap length (r .4) in
-            let cut = length-drop (replay-step f - 1) l in
-            let g : replay-step f ≤ length l = omega arith in g)
-          (λ (h : replay-step f ≤ 0). let g : replay-step f ≤ length l = omega arith in g)
-          (cases-lt 0 (replay-step f)) in
+    ⊎-elim
+    (λ (h : 0 < replay-step f).
+    let r = refused-at-first c m t l s (replayed c m t l .told) (replayed c m t l .graph) refl refl refl f told (omega arith) in
+    let long : length (drop (replay-step f - 1) l) ≡ suc (length (r .2)) = ap length (r .4) in
+    let cut = length-drop (replay-step f - 1) l in
+    let g : replay-step f ≤ length l = omega arith in g)
+    (λ (h : replay-step f ≤ 0). let g : replay-step f ≤ length l = omega arith in g)
+    (cases-lt 0 (replay-step f)) in
     omega arith

@@ -86,9 +86,9 @@ module _ (text : List ℕ) (len : ℕ) (steps : List Step) (r : ℕ) (text′ : 
       let long : graph-length g ≡ length part + 34 = built-length part steps g simple (sym answer ∙ ok) in
       let most : length part ≤ len = looked-most text len in
       let fits : Room len b → graph-length g ≤ b =
-          ⊎-elim (λ (h : 34289 ≤ b). let k : graph-length g ≤ b = omega arith in k) (λ (h : len + 34 ≤ b). let k : graph-length g ≤ b = omega arith in k) in
+      ⊎-elim (λ (h : 34289 ≤ b). let k : graph-length g ≤ b = omega arith in k) (λ (h : len + 34 ≤ b). let k : graph-length g ≤ b = omega arith in k) in
       done-so (λ h e. let same : g ≡ h = ok-same h (sym ok ∙ e) in subst Simple same simple)
-        (λ room. subst (Replays part) (sym (ap (shown b) ok ∙ shown-graph g b (fits room))) (inl (law-built part steps g simple (sym answer ∙ ok))))
+      (λ room. subst (Replays part) (sym (ap (shown b) ok ∙ shown-graph g b (fits room))) (inl (law-built part steps g simple (sym answer ∙ ok))))
     where
       ok-same : (h : Graph) → _≡_ {A = Result Graph ProgramFault} (Ok g) (Ok h) → g ≡ h
       ok-same h e = cc
@@ -98,9 +98,9 @@ module _ (text : List ℕ) (len : ℕ) (steps : List Step) (r : ℕ) (text′ : 
       let b = length text in
       let part = looked-at text len in
       let line : Room len b → 17 ≤ b =
-          ⊎-elim (λ (h : 34289 ≤ b). let k : 17 ≤ b = omega arith in k) (λ (h : len + 34 ≤ b). let k : 17 ≤ b = omega arith in k) in
+      ⊎-elim (λ (h : 34289 ≤ b). let k : 17 ≤ b = omega arith in k) (λ (h : len + 34 ≤ b). let k : 17 ≤ b = omega arith in k) in
       done-so (λ g e. none g (sym bad ∙ e))
-        (λ room. subst (Replays part) (sym (ap (shown b) bad ∙ shown-refusal f b (line room))) (inr (law-refused part steps f records near (sym answer ∙ bad))))
+      (λ room. subst (Replays part) (sym (ap (shown b) bad ∙ shown-refusal f b (line room))) (inr (law-refused part steps f records near (sym answer ∙ bad))))
     where
       none : (g : Graph) → _≡_ {A = Result Graph ProgramFault} (Err f) (Ok g) → Simple g
       none g e = let z : _≡_ {A = ℕ} 0 1 = cc in absurd (omega arith)

@@ -7,10 +7,10 @@ ghost use Rattle.lines.specs.Read.{line-at};
 ghost use Rattle.texts.specs.Fault.{in-form, text-value};
 ghost use Rattle.texts.specs.List-read.{head-at, triangle-at, step-at, steps-read, list-read, end-at};
 ghost use Rattle.texts.specs.List-law.{Same-text, Refused-text, Follows};
+use super::fault::TextFault;
 use columns::read::read_line;
 use lines::line::Fields;
 use lines::line::Line;
-use super::fault::TextFault;
 use theory::step::Step;
 use theory::step::Triangle;
 use theory::step::TriangleDebug;
@@ -122,7 +122,12 @@ pub fn read_list(text: &[u8], at: usize, records: &mut [Step]) -> Result<Heading
     let head = head_line(text, at, records.len())?;
     let triangle = triangle_line(text, at + 17)?;
     read_steps(text, at + 34, head.steps, records)?;
-    Ok(Heading { tables: head.tables, triangle, steps: head.steps, end: at + 34 + 17 * head.steps })
+    Ok(Heading {
+        tables: head.tables,
+        triangle,
+        steps: head.steps,
+        end: at + 34 + 17 * head.steps,
+    })
 }
 
 /// Nothing may follow at `at`: 15 where what follows is not in form, else 16.

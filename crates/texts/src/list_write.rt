@@ -7,11 +7,11 @@ ghost use Rattle.writer.specs.Laid.{laid, laid-line};
 ghost use Rattle.texts.specs.List-text.{step-line, step-text};
 ghost use Rattle.texts.specs.List-write.{step-over, steps-over, list-write-answer, list-written};
 ghost use Rattle.texts.specs.List-law.{Reads-back};
-use writer::line::put_last_two;
-use writer::line::put_three;
 use super::fault::TextFault;
 use theory::step::Step;
 use theory::step::Triangle;
+use writer::line::put_last_two;
+use writer::line::put_three;
 
 /// Whether a number of the step is too large for its field.
 fn is_over(step: Step) -> bool
@@ -57,7 +57,12 @@ fn put_steps(out: &mut [u8], steps: &[Step])
 }
 
 /// Writes the text of a list over the first bytes of `out`, and says how many they are.
-pub fn write_list(out: &mut [u8], tables: u32, triangle: Triangle, steps: &[Step]) -> Result<usize, TextFault>
+pub fn write_list(
+    out: &mut [u8],
+    tables: u32,
+    triangle: Triangle,
+    steps: &[Step],
+) -> Result<usize, TextFault>
     ensures answer { λ r. ⌜ r ≡ list-write-answer tables triangle (now (steps .entry)) (length (now (out .entry))) ⌝ }
     // a refusal writes nothing, and bytes past the text keep their contents
     ensures written { λ _. ⌜ now (out .exit) ≡ list-written tables triangle (now (steps .entry)) (now (out .entry)) ⌝ }

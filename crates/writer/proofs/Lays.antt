@@ -18,5 +18,5 @@ laid-pieces xs at c x y z hx hy hz =
     let one = set xs at c in
     let two = laid-two one (at + 1) (at + 6) x y (omega arith) in
     let all : laid (laid (laid one (at + 1) x) (at + 6) y) (at + 11) z ≡ laid one (at + 1) (x ++ (y ++ z)) =
-        laid-two (laid one (at + 1) x) (at + 6) (at + 11) y z (omega arith) ∙ laid-two one (at + 1) (at + 6) x (y ++ z) (omega arith) in
+    laid-two (laid one (at + 1) x) (at + 6) (at + 11) y z (omega arith) ∙ laid-two one (at + 1) (at + 6) x (y ++ z) (omega arith) in
     ap (λ l. set l (at + 16) 10) all ∙ laid-two one (at + 1) (at + 16) (x ++ (y ++ z)) (10 ∷ []) (simp (length-append) (omega arith))

@@ -13,9 +13,9 @@ use Rattle.columns.proofs.read.line.Needs as need
 inside : (text : List ℕ) (at b : ℕ) → b ≡ getD text (at + 16) 0 → b ≡ 10 → at + 17 ≤ length text
 inside text at b e ten =
     ⊎-elim
-      (λ (h : at + 16 < length text). let g : at + 17 ≤ length text = omega arith in g)
-      (λ (h : length text ≤ at + 16). let z = getD-past text (at + 16) 0 h in absurd (omega (arith, z)))
-      (cases-lt (at + 16) (length text))
+    (λ (h : at + 16 < length text). let g : at + 17 ≤ length text = omega arith in g)
+    (λ (h : length text ≤ at + 16). let z = getD-past text (at + 16) 0 h in absurd (omega (arith, z)))
+    (cases-lt (at + 16) (length text))
 
 pub returns-then-byte-eq10 : need.returns-then-byte-eq10
 returns-then-byte-eq10 c = record {

@@ -26,9 +26,9 @@ returns-in-Err c =
     let did = c .in-Err .ensures tt in
     let kept : out ≡ text = graph-kept m text (c .in-Err .fault) (did .answer) out (did .written) in
     let same : shown (length out) (Err (c .from .result)) ≡ shown (length text) (Ok m) =
-        ap (λ o. shown (length o) (Err (c .from .result))) kept
-        ∙ ap (λ f. shown (length text) (Err f)) (c .from .ensures)
-        ∙ sym (graph-unfit m text (c .in-Err .fault) (did .answer)) in
+    ap (λ o. shown (length o) (Err (c .from .result))) kept
+    ∙ ap (λ f. shown (length text) (Err f)) (c .from .ensures)
+    ∙ sym (graph-unfit m text (c .in-Err .fault) (did .answer)) in
     record {
       count = c .lay-refusal .ensures .count ∙ ap length same;
       laid = c .lay-refusal .ensures .laid ∙ ap (laid out 0) same ∙ ap (λ o. laid o 0 (shown (length text) (Ok m))) kept;

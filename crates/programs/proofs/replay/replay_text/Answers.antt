@@ -25,8 +25,8 @@ returns-in-Ok c =
     let told : Result Graph ProgramFault = Ok (graph-of b) in
     let part = part-is text (c .args .len) (c .min .result) (c .min-len .result) (c .min .ensures) (c .min-len .ensures) in
     done-built text (c .args .len) steps (c .lay-graph .result) (c .lay-graph .last .text) (c .build .last .steps) told
-      (c .in-Ok .ensures tt .answer ∙ ap (λ p. replay-told p steps) part) (c .build .ensures .filled ∙ ap (λ p. list-read p 0 steps .records) part)
-      (c .lay-graph .ensures .count) (c .lay-graph .ensures .laid) (graph-of b) refl (simple-of b)
+    (c .in-Ok .ensures tt .answer ∙ ap (λ p. replay-told p steps) part) (c .build .ensures .filled ∙ ap (λ p. list-read p 0 steps .records) part)
+    (c .lay-graph .ensures .count) (c .lay-graph .ensures .laid) (graph-of b) refl (simple-of b)
 
 pub returns-in-Err : need.returns-in-Err
 returns-in-Err c =
@@ -37,5 +37,5 @@ returns-in-Err c =
     let part = part-is text (c .args .len) (c .min .result) (c .min-len .result) (c .min .ensures) (c .min-len .ensures) in
     let records : 2013 ≤ length steps = omega arith in
     done-refused text (c .args .len) steps (c .lay-refusal .result) (c .lay-refusal .last .text) (c .build .last .steps) told
-      (c .in-Err .ensures tt .answer ∙ ap (λ p. replay-told p steps) part) (c .build .ensures .filled ∙ ap (λ p. list-read p 0 steps .records) part)
-      (c .lay-refusal .ensures .count) (c .lay-refusal .ensures .laid) f refl (c .in-Err .ensures tt .near) records
+    (c .in-Err .ensures tt .answer ∙ ap (λ p. replay-told p steps) part) (c .build .ensures .filled ∙ ap (λ p. list-read p 0 steps .records) part)
+    (c .lay-refusal .ensures .count) (c .lay-refusal .ensures .laid) f refl (c .in-Err .ensures tt .near) records

@@ -48,7 +48,7 @@ returns-in-Break-read-steps c =
     let good = sym (c .triangle-line .ensures .answer) ∙ c .in-Continue-triangle .was tt in
     let bad = sym (c .read-steps .ensures .answer) ∙ c .in-Break-read-steps .was tt in
     let so = read-so text at l r (c .read-steps .last .records) (list-after h t (at + 34 + 17 * h .steps) s) (steps-on text at l h headed t good)
-               (p .1 ∙ ap (λ f. Err f) (p .2) ∙ sym (ap (λ q. next q (λ _. Ok (heading h t (at + 34 + 17 * h .steps)))) bad)) (c .read-steps .ensures .filled) in
+    (p .1 ∙ ap (λ f. Err f) (p .2) ∙ sym (ap (λ q. next q (λ _. Ok (heading h t (at + 34 + 17 * h .steps)))) bad)) (c .read-steps .ensures .filled) in
     let close : text-value (c .in-Break-read-steps .field-0 .0) ≤ c .args .at + length text + 2013 = omega (arith, c .in-Break-read-steps .ensures tt .near) in
     record { answer = so .answer; filled = so .filled; same = so .same; refused = so .refused; near = refused-on (r) (p .0) (c .in-Break-read-steps .field-0 .0) (λ f. text-value f ≤ c .args .at + length text + 2013) (p .1) (p .2) close }
 
@@ -64,5 +64,5 @@ returns c =
     let good = sym (c .triangle-line .ensures .answer) ∙ c .in-Continue-triangle .was tt in
     let told = sym (c .read-steps .ensures .answer) ∙ c .in-Continue-read-steps .was tt in
     let so = read-so text at l (Ok (heading h t (at + 34 + 17 * h .steps))) (c .read-steps .last .records) (list-after h t (at + 34 + 17 * h .steps) s) (steps-on text at l h headed t good)
-               (sym (ap (λ q. next q (λ _. Ok (heading h t (at + 34 + 17 * h .steps)))) told)) (c .read-steps .ensures .filled) in
+    (sym (ap (λ q. next q (λ _. Ok (heading h t (at + 34 + 17 * h .steps)))) told)) (c .read-steps .ensures .filled) in
     record { answer = so .answer; filled = so .filled; same = so .same; refused = so .refused; near = tt }

@@ -15,9 +15,10 @@ loop-i-again c =
     let text = c .args .text .now in
     let whole = steps-read text (c .args .at) (c .args .count) 0 (c .args .records .now) in
     let ok = sym (c .step-line .ensures .answer) ∙ c .in-Continue-records .was tt in
-    let more : c .args .at + 17 * c .loop-i .i + 17 ≤ length text = c .in-Continue-records .ensures tt .within in
-    (steps-on whole text (c .args .at) (c .args .count) (c .loop-i .i) (c .loop-i .records) (c .loop-i-test .taken) (c .loop-i .inv .0) (c .in-Continue-records .field-0) ok,
-     omega arith)
+    let more : c .args .at + 17 * c .loop-i .i + 17 ≤ length text = c .in-Continue-records .ensures tt .within in (
+      steps-on whole text (c .args .at) (c .args .count) (c .loop-i .i) (c .loop-i .records) (c .loop-i-test .taken) (c .loop-i .inv .0) (c .in-Continue-records .field-0) ok,
+      omega arith,
+    )
 
 pub returns-in-Break-records : need.returns-in-Break-records
 returns-in-Break-records c =

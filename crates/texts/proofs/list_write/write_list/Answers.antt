@@ -32,7 +32,7 @@ module _ (n : ℕ) (t : Triangle) (l : List Step) (out one two three : List ℕ)
   back-by : Reads-back n t l three (Ok k)
   back-by =
       subst (λ r. Reads-back n t l three r) (sym answer)
-        (subst (λ o. Reads-back n t l o (list-write-answer n t l (length out))) (sym written-by) (writes-back n t l out))
+      (subst (λ o. Reads-back n t l o (list-write-answer n t l (length out))) (sym written-by) (writes-back n t l out))
 
 pub returns : need.returns
 returns c =
