@@ -35,11 +35,11 @@ use Rattle.theory.specs.Build.{Legal-build}
 use Rattle.theory.specs.Graph.{Graph, Simple, table-count, size, no-joins, clamped}
 use Rattle.theory.specs.declared.step.Step.{Step}
 use Rattle.theory.specs.declared.step.Triangle.{Triangle}
-use Rattle.programs.specs.Fault.{fault-number, fault-layer, fault-place}
+use Rattle.outcomes.specs.Fault.{fault-number, fault-layer, fault-place}
 use Rattle.programs.specs.Replay.{text-then, replay-last, left-by, left, list-played, replay-told}
 use Rattle.programs.specs.Replay-law.{Builds-graph, Refuses}
-use Rattle.programs.specs.declared.fault.ProgramFault.{ProgramFault}
-use Rattle.programs.specs.declared.fault.ProgramFault.the-variants.{Text, Replay}
+use Rattle.outcomes.specs.declared.fault.ProgramFault.{ProgramFault}
+use Rattle.outcomes.specs.declared.fault.ProgramFault.the-variants.{Text, Replay}
 use Rattle.programs.proofs.Told.{clamped-simple, play-last}
 
 -- a number of tables within the limits is taken as it is

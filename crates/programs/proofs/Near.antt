@@ -19,7 +19,7 @@ use Rattle.theory.specs.Graph.{Graph, Simple, table-count, no-joins}
 use Rattle.theory.specs.declared.step.Step.{Step}
 use Rattle.theory.specs.declared.step.Step.the-variants.{Edge, Node}
 use Rattle.theory.specs.declared.step.Triangle.{Triangle}
-use Rattle.programs.specs.Fault.{replay-place}
+use Rattle.outcomes.specs.Fault.{replay-place}
 
 -- the table of 14, or 0
 abbrev table-named : ReplayFault → ℕ

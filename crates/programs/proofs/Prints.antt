@@ -27,10 +27,10 @@ use Rattle.texts.proofs.Writing.{joined-length}
 use Rattle.theory.specs.Graph.{Graph, Simple, size}
 use Rattle.theory.specs.Listing.{joins-of}
 use Rattle.theory.proofs.Listing.{joins-listed}
-use Rattle.programs.specs.Fault.{fault-number, fault-layer, fault-place}
+use Rattle.outcomes.specs.Fault.{fault-number, fault-layer, fault-place}
 use Rattle.programs.specs.Replay.{printed, roomed, shown}
-use Rattle.programs.specs.declared.fault.ProgramFault.{ProgramFault}
-use Rattle.programs.specs.declared.fault.ProgramFault.the-variants.{Text}
+use Rattle.outcomes.specs.declared.fault.ProgramFault.{ProgramFault}
+use Rattle.outcomes.specs.declared.fault.ProgramFault.the-variants.{Text}
 
 pub graph-bytes : (m : Graph) → Simple m → length (graph-text m) ≡ graph-length m
 graph-bytes m s =

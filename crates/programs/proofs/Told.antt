@@ -25,10 +25,10 @@ use Rattle.theory.specs.Graph.{Graph, Simple, no-joins, clamped}
 use Rattle.theory.specs.declared.step.Step.{Step}
 use Rattle.theory.specs.declared.step.Triangle.{Triangle}
 use Rattle.theory.proofs.Sizes.{no-joins-simple}
-use Rattle.programs.specs.Fault.{replay-place}
+use Rattle.outcomes.specs.Fault.{replay-place}
 use Rattle.programs.specs.Replay.{meant, text-then, replay-last, left-by, left, list-played, replay-told}
-use Rattle.programs.specs.declared.fault.ProgramFault.{ProgramFault}
-use Rattle.programs.specs.declared.fault.ProgramFault.the-variants.{Text, Replay}
+use Rattle.outcomes.specs.declared.fault.ProgramFault.{ProgramFault}
+use Rattle.outcomes.specs.declared.fault.ProgramFault.the-variants.{Text, Replay}
 use Rattle.programs.proofs.Near.{replay-near}
 
 at-least : (n : ℕ) → 1 ≤ clamped n

@@ -27,11 +27,11 @@ use Rattle.theory.specs.Graph.{Graph, Simple, size}
 use Rattle.theory.specs.declared.step.Step.{Step}
 use Rattle.theory.proofs.Sizes.{size-most}
 use Rattle.programs.specs.Done.{Done, Room}
-use Rattle.programs.specs.Fault.{fault-number, fault-layer, fault-place}
+use Rattle.outcomes.specs.Fault.{fault-number, fault-layer, fault-place}
 use Rattle.programs.specs.Replay.{printed, roomed, shown, looked-at, replay-told, replay-prints}
 use Rattle.programs.specs.Replay-law.{Replays}
-use Rattle.programs.specs.declared.fault.ProgramFault.{ProgramFault}
-use Rattle.programs.specs.declared.fault.ProgramFault.the-variants.{Text}
+use Rattle.outcomes.specs.declared.fault.ProgramFault.{ProgramFault}
+use Rattle.outcomes.specs.declared.fault.ProgramFault.the-variants.{Text}
 use Rattle.programs.proofs.Law.{law-built, built-length, law-refused}
 use Rattle.programs.proofs.Prints.{graph-bytes, shown-graph, shown-refusal}
 

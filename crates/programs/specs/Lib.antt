@@ -1,4 +1,3 @@
-pub mod Fault
 pub mod Replay
 pub mod Replay-law
 pub mod Done

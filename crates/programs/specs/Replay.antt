@@ -28,9 +28,9 @@ use Rattle.texts.specs.declared.fault.TextFault.the-variants.{TooFew}
 use Rattle.texts.specs.declared.list.Heading.{Heading}
 use Rattle.theory.specs.Graph.{Graph, no-joins, clamped}
 use Rattle.theory.specs.declared.step.Step.{Step}
-use Rattle.programs.specs.Fault.{fault-number, fault-layer, fault-place}
-use Rattle.programs.specs.declared.fault.ProgramFault.{ProgramFault}
-use Rattle.programs.specs.declared.fault.ProgramFault.the-variants.{Text, Replay}
+use Rattle.outcomes.specs.Fault.{fault-number, fault-layer, fault-place}
+use Rattle.outcomes.specs.declared.fault.ProgramFault.{ProgramFault}
+use Rattle.outcomes.specs.declared.fault.ProgramFault.the-variants.{Text, Replay}
 
 abbrev pub graph-of : BitTable → Graph
 graph-of b = rows-graph (b .count) (b .rows)

@@ -12,9 +12,9 @@ use Rattle.texts.proofs.Refusals.{refused-on}
 use Rattle.theory.specs.Graph.{no-joins, clamped}
 use Rattle.construction.specs.Replay.{replayed}
 use Rattle.bits.specs.declared.table.BitTable.{BitTable}
-use Rattle.programs.specs.declared.fault.ProgramFault.{ProgramFault}
-use Rattle.programs.specs.declared.fault.ProgramFault.the-variants.{Text, Replay}
-use Rattle.programs.specs.Fault.{fault-place, replay-place}
+use Rattle.outcomes.specs.declared.fault.ProgramFault.{ProgramFault}
+use Rattle.outcomes.specs.declared.fault.ProgramFault.the-variants.{Text, Replay}
+use Rattle.outcomes.specs.Fault.{fault-place, replay-place}
 use Rattle.programs.specs.Replay.{meant, left, replay-last}
 use Rattle.programs.proofs.Told.{list-off, end-off, play-last, carried, played-as, part-near}
 use Rattle.programs.proofs.replay.build.Needs as need

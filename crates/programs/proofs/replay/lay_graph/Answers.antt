@@ -5,7 +5,7 @@ use Rattle.std.specs.declared.result.Result.the-variants.{Ok, Err}
 use Rattle.bits.proofs.Edits.{simple-of}
 use Rattle.writer.specs.Laid.{laid}
 use Rattle.programs.specs.Replay.{graph-of, shown}
-use Rattle.programs.specs.declared.fault.ProgramFault.the-variants.{Text}
+use Rattle.outcomes.specs.declared.fault.ProgramFault.the-variants.{Text}
 use Rattle.programs.proofs.Prints.{graph-count, graph-lies, graph-unfit, graph-kept}
 use Rattle.programs.proofs.replay.lay_graph.Needs as need
 

@@ -9,7 +9,7 @@ use Rattle.bits.proofs.Edits.{simple-of}
 use Rattle.texts.specs.List-read.{list-read}
 use Rattle.theory.specs.Graph.{Graph}
 use Rattle.programs.specs.Replay.{graph-of, looked-at, replay-told}
-use Rattle.programs.specs.declared.fault.ProgramFault.{ProgramFault}
+use Rattle.outcomes.specs.declared.fault.ProgramFault.{ProgramFault}
 use Rattle.programs.proofs.Whole.{done-built, done-refused}
 use Rattle.programs.proofs.replay.replay_text.Needs as need
 

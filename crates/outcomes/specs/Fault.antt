@@ -8,8 +8,8 @@ use Rattle.texts.specs.Fault.{text-number, text-value}
 use Rattle.refusals.specs.Fault.{replay-number}
 use Rattle.refusals.specs.declared.fault.ReplayFault.{ReplayFault}
 use Rattle.refusals.specs.declared.fault.ReplayFault.the-variants.{Store, HasJoins, NotTriangle, InUse, NotInUse, Unused}
-use Rattle.programs.specs.declared.fault.ProgramFault.{ProgramFault}
-use Rattle.programs.specs.declared.fault.ProgramFault.the-variants.{Text, Replay}
+use Rattle.outcomes.specs.declared.fault.ProgramFault.{ProgramFault}
+use Rattle.outcomes.specs.declared.fault.ProgramFault.the-variants.{Text, Replay}
 
 abbrev pub fault-number : ProgramFault → ℕ
 fault-number (Text f) = text-number f

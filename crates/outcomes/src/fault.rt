@@ -1,7 +1,7 @@
 //! Why a program prints a refusal: its number, its layer and its place.
 ghost use mathlib.Core.Path.{_≡_};
-ghost use Rattle.programs.specs.Fault.{fault-number, fault-layer, fault-place};
-ghost use Rattle.programs.specs.declared.fault.ProgramFault.the-variants.{Text, Replay};
+ghost use Rattle.outcomes.specs.Fault.{fault-number, fault-layer, fault-place};
+ghost use Rattle.outcomes.specs.declared.fault.ProgramFault.the-variants.{Text, Replay};
 use refusals::fault::ReplayFault;
 use refusals::fault::ReplayFaultDebug;
 use refusals::fault::ReplayFaultPartialEq;

@@ -10,7 +10,7 @@ use Rattle.std.specs.Vec.{made}
 use Rattle.std.specs.declared.result.Result.{Result}
 use Rattle.std.specs.declared.result.Result.the-variants.{Ok, Err}
 use Rattle.std.proofs.shelf.Parts.{take-putMid-below}
-use Rattle.programs.proofs.stream.read_rest.Needs as need
+use Rattle.streams.proofs.input.read_rest.Needs as need
 
 -- nothing is promised of a count that is not there
 none-made : {X E : Type 0} (r : Result X E) (P : X → Type 0) → isErr r ≡ true → made r P

@@ -1,0 +1,2 @@
+//! Reading a stream whole into lent memory.
+pub mod input;
