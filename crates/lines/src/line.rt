@@ -1,7 +1,7 @@
 //! A line of text: one letter, then three fields of five characters, then a line feed.
 
 /// How the fifteen characters after a letter are divided.
-#[derive(Clone, Copy, PartialEq, Eq, Debug)]
+#[derive(Clone, Copy)]
 pub enum Layout {
     /// Three numbers.
     Three,

@@ -17,7 +17,7 @@ use theory::step::TriangleDebug;
 use theory::step::TrianglePartialEq;
 
 /// What an H line says: the number of tables, and the number of steps.
-#[derive(Clone, Copy, PartialEq, Eq, Debug)]
+#[derive(Clone, Copy)]
 pub struct Head {
     pub tables: u32,
     pub steps: usize,

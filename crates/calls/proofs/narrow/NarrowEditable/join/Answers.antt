@@ -5,8 +5,8 @@ use borrow.Author.Needs.{needs}
 use Rattle.theory.specs.Graph.{Simple, size, joining}
 use Rattle.theory.proofs.Sizes.{joining-size}
 use Rattle.bits.specs.Rows.{rows-graph}
-use Rattle.cases.proofs.Few.{after-few}
-use Rattle.cases.proofs.narrow.NarrowEditable.join.Needs as need
+use Rattle.calls.proofs.Few.{after-few}
+use Rattle.calls.proofs.narrow.NarrowEditable.join.Needs as need
 
 -- there were fewer than the limit
 pub ghost-self : need.ghost-self

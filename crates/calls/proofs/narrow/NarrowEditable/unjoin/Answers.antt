@@ -5,8 +5,8 @@ use borrow.Author.Needs.{needs}
 use Rattle.theory.specs.Graph.{Simple, size, unjoining}
 use Rattle.theory.proofs.Sizes.{unjoining-size}
 use Rattle.bits.specs.Rows.{rows-graph}
-use Rattle.cases.proofs.Few.{after-few}
-use Rattle.cases.proofs.narrow.NarrowEditable.unjoin.Needs as need
+use Rattle.calls.proofs.Few.{after-few}
+use Rattle.calls.proofs.narrow.NarrowEditable.unjoin.Needs as need
 
 -- there is one join less
 pub ghost-self : need.ghost-self

@@ -4,7 +4,7 @@ use native.Mathlib.Omega.{arith}
 use borrow.Author.Needs.{needs}
 use Rattle.theory.specs.Graph.{size, no-joins, clamped}
 use Rattle.theory.proofs.Sizes.{no-joins-size}
-use Rattle.cases.proofs.narrow.Narrow.new.Needs as need
+use Rattle.calls.proofs.narrow.Narrow.new.Needs as need
 
 pub ghost-result : need.ghost-result
 ghost-result c =
