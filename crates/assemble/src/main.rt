@@ -1,5 +1,7 @@
 //! `assemble`: reads a query from standard input, and prints the build list of its join graph as H, T, N and E lines, or one
 //! X line. All that matters is in the library; here is only reading and writing.
+#![tactic(auto)]
+
 ghost use Rattle.std.specs.Prelude.{◌≡◌, ◌+◌, ◌≤◌, length, take, IfOk};
 
 use assembler::assemble::{assemble_page, assemble_text};

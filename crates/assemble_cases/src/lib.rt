@@ -1,5 +1,7 @@
 //! Tests of the program `assemble` from bytes to bytes, with expected values that our own code did not produce: they were worked
 //! out by hand, or by a model in another language.
+#![tactic(auto)]
+
 #[cfg(test)]
 mod graphs;
 #[cfg(test)]

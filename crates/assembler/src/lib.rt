@@ -1,2 +1,4 @@
 //! The program `assemble`, as one function from the bytes read to the bytes printed.
+#![tactic(auto)]
+
 pub mod assemble;

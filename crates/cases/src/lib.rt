@@ -1,4 +1,6 @@
 //! Tests of the program `replay` from bytes to bytes, with expected values that our own code did not produce: they were
 //! worked out by hand, or by a model in another language.
+#![tactic(auto)]
+
 #[cfg(test)]
 mod program;

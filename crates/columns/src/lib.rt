@@ -1,2 +1,4 @@
 //! Reading one line of fixed columns.
+#![tactic(auto)]
+
 pub mod read;

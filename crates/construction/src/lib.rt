@@ -1,2 +1,4 @@
 //! Playing a build list back into an editable graph.
+#![tactic(auto)]
+
 pub mod replay;

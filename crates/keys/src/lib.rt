@@ -1,2 +1,4 @@
 //! The keys of two graphs compared.
+#![tactic(auto)]
+
 pub mod key;

@@ -1,2 +1,4 @@
 //! Working memory lent by the caller.
+#![tactic(auto)]
+
 pub mod stack;

@@ -1,5 +1,7 @@
 //! `replay`: reads a build list from standard input, plays it back, and prints the join graph as G and J lines, or one X
 //! line. All that matters is in the library; here is only reading and writing.
+#![tactic(auto)]
+
 ghost use Rattle.std.specs.Prelude.{◌≡◌, take};
 
 use programs::replay::{replay_page, replay_text};

@@ -1,2 +1,4 @@
 //! Reading a stream whole into lent memory.
+#![tactic(auto)]
+
 pub mod input;

@@ -1,5 +1,7 @@
 //! Depth-first search of a join graph kept as rows of bits: parents, discovery numbers, the order in which tables are left,
 //! the tables that are not reached, and the articulation tables.
+#![tactic(auto)]
+
 mod articulations;
 mod lows;
 mod search;

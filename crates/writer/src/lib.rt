@@ -1,2 +1,4 @@
 //! Laying one line of fixed columns over a buffer.
+#![tactic(auto)]
+
 pub mod line;
