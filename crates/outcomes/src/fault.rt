@@ -20,16 +20,16 @@ pub enum ProgramFault {
 impl From<TextFault> for ProgramFault {
     ghost from_gives = { λ f r. r ≡ Text f };
 
-    fn from(f: TextFault) -> ProgramFault {
-        ProgramFault::Text(f)
+    fn from(text: TextFault) -> ProgramFault {
+        ProgramFault::Text(text)
     }
 }
 
 impl From<ReplayFault> for ProgramFault {
     ghost from_gives = { λ f r. r ≡ Replay f };
 
-    fn from(f: ReplayFault) -> ProgramFault {
-        ProgramFault::Replay(f)
+    fn from(replay: ReplayFault) -> ProgramFault {
+        ProgramFault::Replay(replay)
     }
 }
 
