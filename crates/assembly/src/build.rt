@@ -52,18 +52,18 @@ fn lay(graph: &BitTable, found: &Survey, records: &mut [Step]) -> Triangle
 /// graph is only asked.
 pub fn build<G: ReadableGraph>(graph: &G, records: &mut [Step]) -> Result<Built, BuildFault>
     // which refusal, in which order of checking, or the list; later records keep their contents, and a refusal leaves all
-    ensures answer { result ≡ build_answer (meaning graph.now) (length records.old) }
-    ensures filled { records.new ≡ records_after (meaning graph.now) records.old }
+    ensures answer { result ≡ build_answer (G.meaning graph.now) (length records.old) }
+    ensures filled { records.new ≡ records_after (G.meaning graph.now) records.old }
     // the list is the one that taking the graph apart yields, and no other is
-    ensures listed { ListGiven (meaning graph.now) result records.new }
+    ensures listed { ListGiven (G.meaning graph.now) result records.new }
     // it is a legal build of the graph, with a step for each join but three
-    ensures legal { LegalGiven (meaning graph.now) result records.new }
+    ensures legal { LegalGiven (G.meaning graph.now) result records.new }
     // 6, 7 or 8 is told exactly when the graph has no legal build at all
-    ensures refused { RefusedExactly (meaning graph.now) result }
+    ensures refused { RefusedExactly (G.meaning graph.now) result }
     // what a refusal names
-    ensures named { Named (meaning graph.now) (length records.old) result }
+    ensures named { Named (G.meaning graph.now) (length records.old) result }
     // played back into any editable graph of as many tables without joins that has room, the list makes the same graph
-    ensures plays { PlaysBack (meaning graph.now) result records.new }
+    ensures plays { PlaysBack (G.meaning graph.now) result records.new }
 {
     let copy = BitTable::copy_of(graph);
     let found = survey(&copy, 0);

@@ -17,7 +17,7 @@ use theory::step::{Step, Triangle};
 
 /// Whether there is any join: a table that has a neighbour.
 fn has_joins<G: ReadableGraph>(graph: &G) -> bool
-    ensures { result ≡ some_join (meaning graph.now) }
+    ensures { result ≡ some_join (G.meaning graph.now) }
 {
     for t in 0..graph.tables() {
         if let Some(_) = graph.next_neighbour(t, 0) {
@@ -45,9 +45,9 @@ fn judge_start(some: bool, tables: u32, capacity: u32, t: Triangle) -> Result<()
 
 /// Joins the three tables of a triangle. Where nothing stands against it, the store refuses none of its joins.
 fn start<G: EditableGraph>(graph: &mut G, t: Triangle) -> Result<(), ReplayFault>
-    ensures answer { result ≡ start_answer (G.ReadableGraph.meaning graph.old) (limit graph.old) t }
+    ensures answer { result ≡ start_answer (G.ReadableGraph.meaning graph.old) (G.limit graph.old) t }
     ensures meant { G.ReadableGraph.meaning graph.new ≡ left result (started (G.ReadableGraph.meaning graph.old) t).graph (G.ReadableGraph.meaning graph.old) }
-    ensures same { limit graph.new ≡ limit graph.old }
+    ensures same { G.limit graph.new ≡ G.limit graph.old }
 {
     judge_start(has_joins(graph), graph.tables(), graph.capacity(), t)?;
     at_step(0, graph.join(t.a, t.b))?;
@@ -108,9 +108,9 @@ fn take_edge<G: EditableGraph>(
     v: u32,
     w: u32,
 ) -> Result<(), ReplayFault>
-    ensures answer { result ≡ step_answer (limit graph.old) step (under_way (G.ReadableGraph.meaning graph.old) used.now) (Edge v w) }
+    ensures answer { result ≡ step_answer (G.limit graph.old) step (under_way (G.ReadableGraph.meaning graph.old) used.now) (Edge v w) }
     ensures meant { under_way (G.ReadableGraph.meaning graph.new) used.now ≡ left result (step_after (under_way (G.ReadableGraph.meaning graph.old) used.now) (Edge v w)) (under_way (G.ReadableGraph.meaning graph.old) used.now) }
-    ensures same { limit graph.new ≡ limit graph.old }
+    ensures same { G.limit graph.new ≡ G.limit graph.old }
 {
     judge_edge(used, graph.tables(), step, v, w)?;
     at_step(step, graph.join(v, w))?;
@@ -157,7 +157,7 @@ fn judge_node(
 
 /// 4 where the two tables are not joined.
 fn held<G: ReadableGraph>(graph: &G, v: u32, w: u32) -> Result<(), StoreFault>
-    ensures { result ≡ held_answer (meaning graph.now) v w }
+    ensures { result ≡ held_answer (G.meaning graph.now) v w }
 {
     if graph.joined(v, w) {
         Ok(())
@@ -178,9 +178,9 @@ fn splice<G: EditableGraph>(
     requires tables { (u < table_count (G.ReadableGraph.meaning graph.old)) × ((v < table_count (G.ReadableGraph.meaning graph.old)) × (w < table_count (G.ReadableGraph.meaning graph.old))) }
     requires apart { ((u ≢ v)) × (((u ≢ w)) × ((v ≢ w))) }
     requires alone { (x : ℕ) → joins (G.ReadableGraph.meaning graph.old) u x ≡ false }
-    ensures answer { result ≡ splice_answer (G.ReadableGraph.meaning graph.old) (limit graph.old) step v w }
+    ensures answer { result ≡ splice_answer (G.ReadableGraph.meaning graph.old) (G.limit graph.old) step v w }
     ensures meant { G.ReadableGraph.meaning graph.new ≡ left result (spliced (G.ReadableGraph.meaning graph.old) u v w) (G.ReadableGraph.meaning graph.old) }
-    ensures same { limit graph.new ≡ limit graph.old }
+    ensures same { G.limit graph.new ≡ G.limit graph.old }
 {
     at_step(step, held(graph, v, w))?;
     at_step(step, graph.join(u, v))?;
@@ -199,9 +199,9 @@ fn take_node<G: EditableGraph>(
     w: u32,
 ) -> Result<(), ReplayFault>
     requires { WithinUse (G.ReadableGraph.meaning graph.old) (flagged used.old) }
-    ensures answer { result ≡ step_answer (limit graph.old) step (under_way (G.ReadableGraph.meaning graph.old) used.old) (Node u v w) }
+    ensures answer { result ≡ step_answer (G.limit graph.old) step (under_way (G.ReadableGraph.meaning graph.old) used.old) (Node u v w) }
     ensures meant { under_way (G.ReadableGraph.meaning graph.new) used.new ≡ left result (step_after (under_way (G.ReadableGraph.meaning graph.old) used.old) (Node u v w)) (under_way (G.ReadableGraph.meaning graph.old) used.old) }
-    ensures same { limit graph.new ≡ limit graph.old }
+    ensures same { G.limit graph.new ≡ G.limit graph.old }
 {
     judge_node(used, graph.tables(), step, u, v, w)?;
     splice(graph, step, u, v, w)?;
@@ -217,9 +217,9 @@ fn take_step<G: EditableGraph>(
     step: Step,
 ) -> Result<(), ReplayFault>
     requires { WithinUse (G.ReadableGraph.meaning graph.old) (flagged used.old) }
-    ensures answer { result ≡ step_answer (limit graph.old) number (under_way (G.ReadableGraph.meaning graph.old) used.old) step }
+    ensures answer { result ≡ step_answer (G.limit graph.old) number (under_way (G.ReadableGraph.meaning graph.old) used.old) step }
     ensures meant { under_way (G.ReadableGraph.meaning graph.new) used.new ≡ left result (step_after (under_way (G.ReadableGraph.meaning graph.old) used.old) step) (under_way (G.ReadableGraph.meaning graph.old) used.old) }
-    ensures same { limit graph.new ≡ limit graph.old }
+    ensures same { G.limit graph.new ≡ G.limit graph.old }
 {
     match step {
         Step::Edge { v, w } => take_edge(graph, used, number, v, w),
@@ -256,12 +256,12 @@ pub fn replay<G: EditableGraph>(
     triangle: Triangle,
     steps: &[Step],
 ) -> Result<(), ReplayFault>
-    ensures answer { result ≡ (replayed (limit graph.old) (G.ReadableGraph.meaning graph.old) triangle steps.now).told }
-    ensures meant { G.ReadableGraph.meaning graph.new ≡ (replayed (limit graph.old) (G.ReadableGraph.meaning graph.old) triangle steps.now).graph }
-    ensures same { limit graph.new ≡ limit graph.old }
+    ensures answer { result ≡ (replayed (G.limit graph.old) (G.ReadableGraph.meaning graph.old) triangle steps.now).told }
+    ensures meant { G.ReadableGraph.meaning graph.new ≡ (replayed (G.limit graph.old) (G.ReadableGraph.meaning graph.old) triangle steps.now).graph }
+    ensures same { G.limit graph.new ≡ G.limit graph.old }
     ensures accepted { AcceptedExactly (G.ReadableGraph.meaning graph.old) triangle steps.now result (G.ReadableGraph.meaning graph.new) }
-    ensures room { AcceptedWithRoom (limit graph.old) (G.ReadableGraph.meaning graph.old) triangle steps.now result }
-    ensures refused { RefusedAtFirst (limit graph.old) (G.ReadableGraph.meaning graph.old) triangle steps.now result (G.ReadableGraph.meaning graph.new) }
+    ensures room { AcceptedWithRoom (G.limit graph.old) (G.ReadableGraph.meaning graph.old) triangle steps.now result }
+    ensures refused { RefusedAtFirst (G.limit graph.old) (G.ReadableGraph.meaning graph.old) triangle steps.now result (G.ReadableGraph.meaning graph.new) }
     ensures unused { UnusedTold (G.ReadableGraph.meaning graph.old) triangle steps.now result (G.ReadableGraph.meaning graph.new) }
     ensures start { StartTold (G.ReadableGraph.meaning graph.old) result (G.ReadableGraph.meaning graph.new) }
 {

@@ -13,8 +13,8 @@ use writer::line::{put_first_two, put_last_two};
 
 /// How many tables above `v` are joined with it.
 fn row_count<G: ReadableGraph>(graph: &G, v: u32) -> usize
-    requires { v < table_count (meaning graph.now) }
-    ensures { result ≡ length (row_from (meaning graph.now) v (v + 1) (table_count (meaning graph.now) - (v + 1))) }
+    requires { v < table_count (G.meaning graph.now) }
+    ensures { result ≡ length (row_from (G.meaning graph.now) v (v + 1) (table_count (G.meaning graph.now) - (v + 1))) }
 {
     let mut count = 0;
     let mut bound = v + 1;
@@ -27,7 +27,7 @@ fn row_count<G: ReadableGraph>(graph: &G, v: u32) -> usize
 
 /// How many joins a graph has.
 pub fn count_joins<G: ReadableGraph>(graph: &G) -> usize
-    ensures { result ≡ size (meaning graph.now) }
+    ensures { result ≡ size (G.meaning graph.now) }
 {
     let mut count = 0;
     for v in 0..graph.tables() {
@@ -38,9 +38,9 @@ pub fn count_joins<G: ReadableGraph>(graph: &G) -> usize
 
 /// The J lines of the joins of `v` with tables above it, from `at` on; where the next line goes.
 fn put_row<G: ReadableGraph>(graph: &G, out: &mut [u8], at: usize, v: u32) -> usize
-    requires { (v < table_count (meaning graph.now)) × (at + 17 * length (row_from (meaning graph.now) v (v + 1) (table_count (meaning graph.now) - (v + 1))) ≤ length out.old) }
-    ensures next { result ≡ at + 17 * length (row_from (meaning graph.now) v (v + 1) (table_count (meaning graph.now) - (v + 1))) }
-    ensures written { out.new ≡ laid out.old at (all_of (λ p. line_text (join_line p)) (row_from (meaning graph.now) v (v + 1) (table_count (meaning graph.now) - (v + 1)))) }
+    requires { (v < table_count (G.meaning graph.now)) × (at + 17 * length (row_from (G.meaning graph.now) v (v + 1) (table_count (G.meaning graph.now) - (v + 1))) ≤ length out.old) }
+    ensures next { result ≡ at + 17 * length (row_from (G.meaning graph.now) v (v + 1) (table_count (G.meaning graph.now) - (v + 1))) }
+    ensures written { out.new ≡ laid out.old at (all_of (λ p. line_text (join_line p)) (row_from (G.meaning graph.now) v (v + 1) (table_count (G.meaning graph.now) - (v + 1)))) }
 {
     let mut at = at;
     let mut bound = v + 1;
@@ -54,11 +54,11 @@ fn put_row<G: ReadableGraph>(graph: &G, out: &mut [u8], at: usize, v: u32) -> us
 
 /// Writes a graph's text over the first bytes of `out`, and says how many they are. A refusal writes nothing.
 pub fn write_graph<G: ReadableGraph>(graph: &G, out: &mut [u8]) -> Result<usize, TextFault>
-    ensures answer { result ≡ graph_answer (meaning graph.now) (length out.old) }
+    ensures answer { result ≡ graph_answer (G.meaning graph.now) (length out.old) }
     // bytes past the text keep their contents
-    ensures written { out.new ≡ graph_written (meaning graph.now) out.old }
+    ensures written { out.new ≡ graph_written (G.meaning graph.now) out.old }
     // the J lines are the joins, each once, in rising order
-    ensures listed { ListsJoins (meaning graph.now) (joins_of (meaning graph.now)) }
+    ensures listed { ListsJoins (G.meaning graph.now) (joins_of (G.meaning graph.now)) }
 {
     let tables = graph.tables();
     let joins = count_joins(graph);

@@ -96,9 +96,9 @@ fn row_line(text: &[u8], at: usize) -> Result<(u32, i64), TextFault>
 
 /// A J line: its pair is joined.
 fn read_join<G: EditableGraph>(text: &[u8], at: usize, graph: &mut G) -> Result<(), QueryFault>
-    ensures answer { result ≡ (join_at (limit graph.old) text.now at (G.ReadableGraph.meaning graph.old)).told }
-    ensures left { G.ReadableGraph.meaning graph.new ≡ (join_at (limit graph.old) text.now at (G.ReadableGraph.meaning graph.old)).left }
-    ensures same { limit graph.new ≡ limit graph.old }
+    ensures answer { result ≡ (join_at (G.limit graph.old) text.now at (G.ReadableGraph.meaning graph.old)).told }
+    ensures left { G.ReadableGraph.meaning graph.new ≡ (join_at (G.limit graph.old) text.now at (G.ReadableGraph.meaning graph.old)).left }
+    ensures same { G.limit graph.new ≡ G.limit graph.old }
     ensures within { OnOk result (at + 17 ≤ length text.now) }
     ensures near { IfErr result (λ f. query_place f ≤ at + 16) }
 {
@@ -115,8 +115,8 @@ fn read_joins<G: EditableGraph>(
     graph: &mut G,
 ) -> Result<(), QueryFault>
     requires { (at ≤ length text.now) × (count ≤ 2016) }
-    ensures answer { result ≡ (joins_read (limit graph.old) text.now at count (G.ReadableGraph.meaning graph.old)).told }
-    ensures left { G.ReadableGraph.meaning graph.new ≡ (joins_read (limit graph.old) text.now at count (G.ReadableGraph.meaning graph.old)).left }
+    ensures answer { result ≡ (joins_read (G.limit graph.old) text.now at count (G.ReadableGraph.meaning graph.old)).told }
+    ensures left { G.ReadableGraph.meaning graph.new ≡ (joins_read (G.limit graph.old) text.now at count (G.ReadableGraph.meaning graph.old)).left }
     ensures within { OnOk result (at + 17 * count ≤ length text.now) }
     ensures near { IfErr result (λ f. query_place f ≤ length text.now + 16) }
 {

@@ -9,8 +9,8 @@ use graph::graph::ReadableGraph;
 
 /// Puts in the joins of `v` with the tables above it.
 fn copy_row<G: ReadableGraph>(graph: &G, v: u32, copy: &mut BitTable)
-    requires { (v < table_count (meaning graph.now)) × (rows_graph copy.old.count copy.old.rows ≡ copied (meaning graph.now) v (v + 1)) }
-    ensures { rows_graph copy.new.count copy.new.rows ≡ copied (meaning graph.now) (v + 1) (v + 2) }
+    requires { (v < table_count (G.meaning graph.now)) × (rows_graph copy.old.count copy.old.rows ≡ copied (G.meaning graph.now) v (v + 1)) }
+    ensures { rows_graph copy.new.count copy.new.rows ≡ copied (G.meaning graph.now) (v + 1) (v + 2) }
 {
     let mut bound = v + 1;
     while let Some(w) = graph.next_neighbour(v, bound) {
@@ -22,7 +22,7 @@ fn copy_row<G: ReadableGraph>(graph: &G, v: u32, copy: &mut BitTable)
 impl BitTable {
     /// A table of bits with the tables and the joins of a graph. Each join is asked for once.
     pub fn copy_of<G: ReadableGraph>(graph: &G) -> BitTable
-        ensures { rows_graph result.count result.rows ≡ meaning graph.now }
+        ensures { rows_graph result.count result.rows ≡ G.meaning graph.now }
     {
         let tables = graph.tables();
         let mut copy = BitTable::new(tables);
