@@ -5,7 +5,7 @@
 --   both f rows a b           rows a and b, each with the other's bit put through f, as the code writes them
 --   join_means, unjoin_means  both by `|` joins a and b; by `^`, where they are joined, it takes the join out
 --   empty_means               rows of zeros have no joins
---   owed                      the ghost fields of a table whose rows mean m
+--   Owed, owed                the ghost fields of a table whose rows mean m
 use Rattle.std.proofs.Common.{◌≡◌, ℕ, zero, suc, ◌*◌, ◌%◌, ◌^◌, ◌<◌, ◌≤◌, Bool, true, false, not, ◌&&◌, ◌||◌, eqb, ◌⊎◌, List, length, get_or, set, replicate, sym, refl, ap, ◌∙◌, subst, ⊎_elim, arith, length-set, get_or-set_other, get_or-set_same}
 use mathlib.Core.Path.{fun_ext}
 use lib.Bits.{bit_or, bit_xor}
@@ -104,11 +104,18 @@ empty_means n =
 
 -- ---- the ghost fields
 
-pub owed : (n : ℕ) (rows : List ℕ) (joins : ℕ) (m : Graph) → rows_graph n rows ≡ m → Simple m → joins ≡ size m
-    → (1 ≤ n) × ((n ≤ 64) × (((a b : ℕ) → (rows_graph n rows).adj a b ≡ (rows_graph n rows).adj b a) × (((a : ℕ) → (rows_graph n rows).adj a a ≡ false)
-    × (((a b : ℕ) → (rows_graph n rows).adj a b ≡ true → a < n) × ((joins ≡ size (rows_graph n rows)) × ((joins ≤ 2016) × Unit {0}))))))
+pub record Owed (n : ℕ) (rows : List ℕ) (joins : ℕ) : Type 0 where
+  pub some : 1 ≤ n
+  pub few : n ≤ 64
+  pub symmetric : (a b : ℕ) → (rows_graph n rows).adj a b ≡ (rows_graph n rows).adj b a
+  pub loopless : (a : ℕ) → (rows_graph n rows).adj a a ≡ false
+  pub within : (a b : ℕ) → (rows_graph n rows).adj a b ≡ true → a < n
+  pub counted : joins ≡ size (rows_graph n rows)
+  pub fits : joins ≤ 2016
+
+pub owed : (n : ℕ) (rows : List ℕ) (joins : ℕ) (m : Graph) → rows_graph n rows ≡ m → Simple m → joins ≡ size m → Owed n rows joins
 owed n rows joins m means simple counted =
     let s : Simple (rows_graph n rows) = subst Simple (sym means) simple in
     let k : joins ≡ size (rows_graph n rows) = counted ∙ ap size (sym means) in
     let most : size (rows_graph n rows) ≤ 2016 = size_most (rows_graph n rows) s.few in
-    (s.some, (s.few, (s.symmetric, (s.loopless, (s.within, (k, (omega arith, tt)))))))
+    record { some = s.some; few = s.few; symmetric = s.symmetric; loopless = s.loopless; within = s.within; counted = k; fits = omega arith }

@@ -4,7 +4,7 @@ use Rattle.construction.proofs.Joins.{some_yes, some_none}
 use Rattle.construction.proofs.replay.has_joins.Goals as goal
 
 pub loop-t-preserved : goal.loop-t-preserved
-loop-t-preserved g c = λ x y. below_more (λ x. (g.G.ReadableGraph.meaning c.args.graph.now).adj x y ≡ false) c.loop-t.t (λ k h. c.loop-t.invariant k y h) (c.in-default.ensures y (omega arith)) x
+loop-t-preserved g c = λ x y. below_more (λ x. (g.G.ReadableGraph.meaning c.args.graph.now).adj x y ≡ false) c.loop-t.t (λ k h. c.loop-t.invariant k y h) (c.in_default.ensures y (omega arith)) x
 
 pub returns-in-Some : goal.returns-in-Some
 returns-in-Some g c =

@@ -10,29 +10,29 @@ use Rattle.construction.proofs.Laws.{accepted_exactly, accepted_with_room, refus
 use Rattle.construction.proofs.replay.replay.Goals as goal
 
 -- the triangle is refused
-pub returns-in-err-start : goal.returns-in-err-start
-returns-in-err-start g c =
+pub returns-in_err-start : goal.returns-in_err-start
+returns-in_err-start g c =
     let m = g.G.ReadableGraph.meaning in
     let n = g.G.EditableGraph.limit in
-    let p = err_from_is_err_and c.from-residual.result c.from-residual.ensures.1 in
+    let p = err_from_is_err_and c.from_residual.result c.from_residual.ensures.1 in
     let s = g.G.ReadableGraph.simple c.args.graph.now in
     let both = start_off (n c.args.graph.now) (m c.args.graph.now) c.args.triangle c.args.steps.now
-    (m c.start.new.graph) c.start.result c.in-err-start.field-0.0 p.0 c.from-residual.result
-    c.start.ensures.answer c.start.ensures.meant c.in-err-start.was p.1 p.2 in
+    (m c.start.new.graph) c.start.result c.in_err-start.field-0.0 p.0 c.from_residual.result
+    c.start.ensures.answer c.start.ensures.meant c.in_err-start.was p.1 p.2 in
     record {
       answer = both.0;
       meant = both.1;
       same = c.start.ensures.same;
       accepted = accepted_exactly (n c.args.graph.now) (m c.args.graph.now) c.args.triangle c.args.steps.now s
-          c.from-residual.result (m c.start.new.graph) both.0 both.1;
+          c.from_residual.result (m c.start.new.graph) both.0 both.1;
       room = accepted_with_room (n c.args.graph.now) (m c.args.graph.now) c.args.triangle c.args.steps.now s
-          c.from-residual.result (m c.start.new.graph) both.0 both.1;
+          c.from_residual.result (m c.start.new.graph) both.0 both.1;
       refused = refused_at_first (n c.args.graph.now) (m c.args.graph.now) c.args.triangle c.args.steps.now s
-          c.from-residual.result (m c.start.new.graph) both.0 both.1;
+          c.from_residual.result (m c.start.new.graph) both.0 both.1;
       unused = unused_told (n c.args.graph.now) (m c.args.graph.now) c.args.triangle c.args.steps.now s
-          c.from-residual.result (m c.start.new.graph) both.0 both.1;
+          c.from_residual.result (m c.start.new.graph) both.0 both.1;
       start = start_told (n c.args.graph.now) (m c.args.graph.now) c.args.triangle c.args.steps.now s
-          c.from-residual.result (m c.start.new.graph) both.0 both.1;
+          c.from_residual.result (m c.start.new.graph) both.0 both.1;
     }
 
 -- the tables of a triangle that is laid are below 64
@@ -41,7 +41,7 @@ seated-used-requires g c =
     let m = g.G.ReadableGraph.meaning c.args.graph.now in
     let n = g.G.EditableGraph.limit c.args.graph.now in
     let s = g.G.ReadableGraph.simple c.args.graph.now in
-    let h = startable m n c.args.triangle s (sym c.start.ensures.answer ∙ c.in-ok-start.was) in
+    let h = startable m n c.args.triangle s (sym c.start.ensures.answer ∙ c.in_ok-start.was) in
     let few : m.tables ≤ 64 = s.few in
     let lc : c.args.triangle.c < 64 = omega (arith, h.within) in
     let lb : c.args.triangle.b < 64 = omega (arith, h.bc) in
@@ -53,12 +53,12 @@ loop-i-init g c =
     let m = g.G.ReadableGraph.meaning in
     let n = g.G.EditableGraph.limit in
     let going = entered_going (n c.args.graph.now) (m c.args.graph.now) c.args.triangle c.args.steps.now
-    (m c.start.new.graph) (flagged c.seated-used.result) c.start.result c.start.ensures.answer c.start.ensures.meant c.in-ok-start.was
+    (m c.start.new.graph) (flagged c.seated-used.result) c.start.result c.start.ensures.answer c.start.ensures.meant c.in_ok-start.was
     c.seated-used.ensures (g.G.ReadableGraph.simple c.args.graph.now) in
     (refl, refl, going)
 
-pub take-step-requires : goal.take-step-requires
-take-step-requires g c = c.loop-i.invariant.2.within
+pub take_step-requires : goal.take_step-requires
+take_step-requires g c = c.loop-i.invariant.2.within
 
 pub loop-i-preserved : goal.loop-i-preserved
 loop-i-preserved g c =
@@ -68,26 +68,26 @@ loop-i-preserved g c =
     let whole = steps_from (n c.start.new.graph) 1 (under_way (m c.start.new.graph) c.seated-used.result) c.args.steps.now in
     let on = step_on whole (n c.start.new.graph) (n c.loop-i.graph) (under_way (m c.loop-i.graph) c.loop-i.used)
     (under_way (m c.take_step.new.graph) c.take_step.new.used) c.args.steps.now c.loop-i.i (Edge 0 0) c.take_step.result
-    c.loop-i-test.true c.loop-i.invariant.0 c.loop-i.invariant.1 did.answer did.meant c.in-ok-take-step.was in
+    c.loop-i-test.true c.loop-i.invariant.0 c.loop-i.invariant.1 did.answer did.meant c.in_ok-take_step.was in
     let going = still_going whole (n c.start.new.graph) (n c.loop-i.graph) (under_way (m c.loop-i.graph) c.loop-i.used)
     (under_way (m c.take_step.new.graph) c.take_step.new.used) c.args.steps.now c.loop-i.i (Edge 0 0) c.take_step.result
-    c.loop-i-test.true c.loop-i.invariant.0 c.loop-i.invariant.1 did.answer did.meant c.loop-i.invariant.2 c.in-ok-take-step.was in
+    c.loop-i-test.true c.loop-i.invariant.0 c.loop-i.invariant.1 did.answer did.meant c.loop-i.invariant.2 c.in_ok-take_step.was in
     (did.same ∙ c.loop-i.invariant.0, on, going)
 
 -- a step is refused
-pub returns-in-err-take-step : goal.returns-in-err-take-step
-returns-in-err-take-step g c =
+pub returns-in_err-take_step : goal.returns-in_err-take_step
+returns-in_err-take_step g c =
     let m = g.G.ReadableGraph.meaning in
     let n = g.G.EditableGraph.limit in
     let did = c.take_step.ensures in
     let s = g.G.ReadableGraph.simple c.args.graph.now in
-    let p = err_from_is_err_and c.from-residual-in-err-take-step.result c.from-residual-in-err-take-step.ensures.1 in
+    let p = err_from_is_err_and c.from_residual-in_err-take_step.result c.from_residual-in_err-take_step.ensures.1 in
     let both = step_off (steps_from (n c.start.new.graph) 1 (under_way (m c.start.new.graph) c.seated-used.result) c.args.steps.now)
     (n c.start.new.graph) (n c.loop-i.graph) (under_way (m c.loop-i.graph) c.loop-i.used) (under_way (m c.take_step.new.graph) c.take_step.new.used)
     c.args.steps.now c.loop-i.i (Edge 0 0) c.take_step.result c.loop-i-test.true c.loop-i.invariant.0 c.loop-i.invariant.1 did.answer did.meant
-    c.in-err-take-step.field-0.0 p.0 c.from-residual-in-err-take-step.result c.in-err-take-step.was p.1 p.2 in
+    c.in_err-take_step.field-0.0 p.0 c.from_residual-in_err-take_step.result c.in_err-take_step.was p.1 p.2 in
     let e = entered (n c.args.graph.now) (m c.args.graph.now) c.args.triangle c.args.steps.now
-    (m c.start.new.graph) (flagged c.seated-used.result) c.start.result c.start.ensures.answer c.start.ensures.meant c.in-ok-start.was
+    (m c.start.new.graph) (flagged c.seated-used.result) c.start.result c.start.ensures.answer c.start.ensures.meant c.in_ok-start.was
     c.seated-used.ensures (n c.start.new.graph) c.start.ensures.same in
     let told = both.0 ∙ sym (ap (λ (p : Played). p.told) e) in
     let left = both.1 ∙ sym (ap (λ (p : Played). p.graph) e) in
@@ -96,15 +96,15 @@ returns-in-err-take-step g c =
       meant = left;
       same = did.same ∙ c.loop-i.invariant.0 ∙ c.start.ensures.same;
       accepted = accepted_exactly (n c.args.graph.now) (m c.args.graph.now) c.args.triangle c.args.steps.now s
-          c.from-residual-in-err-take-step.result (m c.take_step.new.graph) told left;
+          c.from_residual-in_err-take_step.result (m c.take_step.new.graph) told left;
       room = accepted_with_room (n c.args.graph.now) (m c.args.graph.now) c.args.triangle c.args.steps.now s
-          c.from-residual-in-err-take-step.result (m c.take_step.new.graph) told left;
+          c.from_residual-in_err-take_step.result (m c.take_step.new.graph) told left;
       refused = refused_at_first (n c.args.graph.now) (m c.args.graph.now) c.args.triangle c.args.steps.now s
-          c.from-residual-in-err-take-step.result (m c.take_step.new.graph) told left;
+          c.from_residual-in_err-take_step.result (m c.take_step.new.graph) told left;
       unused = unused_told (n c.args.graph.now) (m c.args.graph.now) c.args.triangle c.args.steps.now s
-          c.from-residual-in-err-take-step.result (m c.take_step.new.graph) told left;
+          c.from_residual-in_err-take_step.result (m c.take_step.new.graph) told left;
       start = start_told (n c.args.graph.now) (m c.args.graph.now) c.args.triangle c.args.steps.now s
-          c.from-residual-in-err-take-step.result (m c.take_step.new.graph) told left;
+          c.from_residual-in_err-take_step.result (m c.take_step.new.graph) told left;
     }
 
 -- all steps are taken, and the close answers
@@ -114,7 +114,7 @@ returns g c =
     let n = g.G.EditableGraph.limit in
     let s = g.G.ReadableGraph.simple c.args.graph.now in
     let e = entered (n c.args.graph.now) (m c.args.graph.now) c.args.triangle c.args.steps.now
-    (m c.start.new.graph) (flagged c.seated-used.result) c.start.result c.start.ensures.answer c.start.ensures.meant c.in-ok-start.was
+    (m c.start.new.graph) (flagged c.seated-used.result) c.start.result c.start.ensures.answer c.start.ensures.meant c.in_ok-start.was
     c.seated-used.ensures (n c.start.new.graph) c.start.ensures.same in
     let f = e ∙ c.loop-i.invariant.1
     ∙ ends (n c.start.new.graph) (c.loop-i.i + 1) (under_way (m c.loop-i.graph) c.loop-i.used) c.args.steps.now c.loop-i.i c.loop-i-test.false in

@@ -5,28 +5,28 @@ use Rattle.construction.specs.Inner.{flagged}
 use Rattle.construction.proofs.Inner.{passed, refused, passed_on, edge_judged, edge_carried, edge_refused, edge_taken}
 use Rattle.construction.proofs.replay.take_edge.Goals as goal
 
-pub returns-in-err-judge-edge : goal.returns-in-err-judge-edge
-returns-in-err-judge-edge g c =
+pub returns-in_err-judge_edge : goal.returns-in_err-judge_edge
+returns-in_err-judge_edge g c =
     let m = g.G.ReadableGraph.meaning c.args.graph.now in
     let n = g.G.EditableGraph.limit c.args.graph.now in
-    let p = err_from_is_err_and c.from-residual.result c.from-residual.ensures.1 in
+    let p = err_from_is_err_and c.from_residual.result c.from_residual.ensures.1 in
     let both = edge_judged n c.args.step m (flagged c.args.used.now) c.args.v c.args.w c.tables.result c.judge_edge.result
-    c.tables.ensures c.judge_edge.ensures c.in-err-judge-edge.field-0.0 p.0 c.from-residual.result c.in-err-judge-edge.was p.1 p.2 in
+    c.tables.ensures c.judge_edge.ensures c.in_err-judge_edge.field-0.0 p.0 c.from_residual.result c.in_err-judge_edge.was p.1 p.2 in
     record { answer = both.0; meant = both.1; same = refl }
 
-pub returns-in-err-at-step : goal.returns-in-err-at-step
-returns-in-err-at-step g c =
+pub returns-in_err-at_step : goal.returns-in_err-at_step
+returns-in_err-at_step g c =
     let m = g.G.ReadableGraph.meaning c.args.graph.now in
     let n = g.G.EditableGraph.limit c.args.graph.now in
     let k = c.args.step in
     let whole = edge_carried n k m (flagged c.args.used.now) c.args.v c.args.w c.tables.result c.judge_edge.result
-    c.tables.ensures c.judge_edge.ensures c.in-ok-judge-edge.was in
-    let p = err_from_is_err_and c.from-residual-in-err-at-step.result c.from-residual-in-err-at-step.ensures.1 in
+    c.tables.ensures c.judge_edge.ensures c.in_ok-judge_edge.was in
+    let p = err_from_is_err_and c.from_residual-in_err-at_step.result c.from_residual-in_err-at_step.ensures.1 in
     let both = edge_refused n k m (g.G.ReadableGraph.meaning c.join.new.self) (flagged c.args.used.now) c.args.v c.args.w
-    c.join.result c.in-err-at-step.field-0.0.fault c.from-residual-in-err-at-step.result whole c.join.ensures.answer c.join.ensures.meant
-    (refused k c.join.result c.at_step.result c.at_step.ensures c.in-err-at-step.field-0.0 c.in-err-at-step.was)
-    (passed_on k c.join.result c.at_step.result c.at_step.ensures c.in-err-at-step.field-0.0 p.0 c.from-residual-in-err-at-step.result
-    c.in-err-at-step.was p.1 p.2) in
+    c.join.result c.in_err-at_step.field-0.0.fault c.from_residual-in_err-at_step.result whole c.join.ensures.answer c.join.ensures.meant
+    (refused k c.join.result c.at_step.result c.at_step.ensures c.in_err-at_step.field-0.0 c.in_err-at_step.was)
+    (passed_on k c.join.result c.at_step.result c.at_step.ensures c.in_err-at_step.field-0.0 p.0 c.from_residual-in_err-at_step.result
+    c.in_err-at_step.was p.1 p.2) in
     record { answer = both.0; meant = both.1; same = c.join.ensures.same }
 
 pub returns : goal.returns
@@ -35,8 +35,8 @@ returns g c =
     let n = g.G.EditableGraph.limit c.args.graph.now in
     let k = c.args.step in
     let whole = edge_carried n k m (flagged c.args.used.now) c.args.v c.args.w c.tables.result c.judge_edge.result
-    c.tables.ensures c.judge_edge.ensures c.in-ok-judge-edge.was in
+    c.tables.ensures c.judge_edge.ensures c.in_ok-judge_edge.was in
     let both = edge_taken n k m (g.G.ReadableGraph.meaning c.join.new.self) (flagged c.args.used.now) c.args.v c.args.w
     c.join.result whole c.join.ensures.answer c.join.ensures.meant
-    (passed k c.join.result c.at_step.result c.at_step.ensures c.in-ok-at-step.field-0 c.in-ok-at-step.was) in
+    (passed k c.join.result c.at_step.result c.at_step.ensures c.in_ok-at_step.field-0 c.in_ok-at_step.was) in
     record { answer = both.0; meant = both.1; same = c.join.ensures.same }

@@ -9,16 +9,16 @@ use Rattle.notes.proofs.notes.take_all.Goals as goal
 pub nearest-a-requires : goal.nearest-a-requires
 nearest-a-requires c = c.requires.tables.1 (get_or c.args.left.now c.loop-i.i 0)
 
-pub without-table-staying-requires : goal.without-table-staying-requires
-without-table-staying-requires c = c.requires.tables.0 c.loop-i.i
+pub without_table-staying-requires : goal.without_table-staying-requires
+without_table-staying-requires c = c.requires.tables.0 c.loop-i.i
 
 pub loop-i-init : goal.loop-i-init
 loop-i-init c =
     let all = all_notes (entry c.args.parents.now) (entry c.args.numbers.now) (take (c.args.count - 3) c.args.left.now) (part_in c.args.tables c.args.rows.now) in
     (c.told-rows, c.requires.symmetric, refl, starts c.args.notes.now.slots.now c.args.notes.now.len all all refl, refl)
 
-pub take-away-requires : goal.take-away-requires
-take-away-requires c =
+pub take_away-requires : goal.take_away-requires
+take_away-requires c =
     let parent = entry c.args.parents.now in
     let rank = entry c.args.numbers.now in
     let left = c.args.left.now in
@@ -33,7 +33,7 @@ take-away-requires c =
     let first = c.args.notes.now.slots.now in
     let start = c.args.notes.now.len in
     let all = all_notes parent rank (take n left) (part_in c.args.tables c.args.rows.now) in
-    let h : i < n = omega (arith, c.loop-i-test.true, c.saturating-sub-i-end.ensures) in
+    let h : i < n = omega (arith, c.loop-i-test.true, c.saturating_sub-i-end.ensures) in
     let few : n ≤ 64 = omega (arith, c.requires.few) in
     let l = notes_in (joins_in rows) u f a in
     let r = all_notes parent rank (drop (i + 1) (take n left)) (taken parent rank u (part_in c.loop-i.staying rows)) in
@@ -59,24 +59,24 @@ loop-i-preserved c =
     let rows = c.loop-i.rows in
     let rows' = c.take_away.new.rows in
     let tables = c.loop-i.staying in
-    let tables' = c.without-table-staying.result in
+    let tables' = c.without_table-staying.result in
     let slots = c.loop-i.notes.slots.now in
     let k = c.loop-i.notes.len in
     let first = c.args.notes.now.slots.now in
     let start = c.args.notes.now.len in
     let all = all_notes parent rank (take n left) (part_in c.args.tables c.args.rows.now) in
-    let h : i < n = omega (arith, c.loop-i-test.true, c.saturating-sub-i-end.ensures) in
+    let h : i < n = omega (arith, c.loop-i-test.true, c.saturating_sub-i-end.ensures) in
     let few : n ≤ 64 = omega (arith, c.requires.few) in
     let l = notes_in (joins_in rows) u f a in
     let r = all_notes parent rank (drop (i + 1) (take n left)) (part_in tables' rows') in
     let long : length rows' ≡ 64 = omega (arith, c.take_away.array_long) in (
       long,
       symmetric_after (joins_in rows) (joins_in rows') u f a c.loop-i.invariant.1 c.take_away.ensures.joins,
-      sym (remaining_on parent rank left n i tables rows c.told-left few tables' rows' u f a refl refl c.nearest-a.ensures.is h c.without-table-staying.ensures c.take_away.ensures.joins)
+      sym (remaining_on parent rank left n i tables rows c.told-left few tables' rows' u f a refl refl c.nearest-a.ensures.is h c.without_table-staying.ensures c.take_away.ensures.joins)
           ∙ c.loop-i.invariant.2,
       goes_on slots c.take_away.new.notes.slots.now k c.take_away.new.notes.len l r first start all
           (goes_as slots k (all_notes parent rank (drop i (take n left)) (part_in tables rows)) (l ++ r) first start all
-          (notes_on parent rank left n i tables rows c.told-left few tables' rows' u f a refl refl c.nearest-a.ensures.is h c.without-table-staying.ensures c.take_away.ensures.joins)
+          (notes_on parent rank left n i tables rows c.told-left few tables' rows' u f a refl refl c.nearest-a.ensures.is h c.without_table-staying.ensures c.take_away.ensures.joins)
           c.loop-i.invariant.3)
           c.take_away.ensures.laid c.take_away.ensures.height,
       c.take_away.ensures.lender ∙ c.loop-i.invariant.4,
@@ -92,7 +92,7 @@ returns c =
     let rows = c.loop-i.rows in
     let tables = c.loop-i.staying in
     let all = all_notes parent rank (take n left) (part_in c.args.tables c.args.rows.now) in
-    let h : n ≤ i = omega (arith, c.loop-i-test.false, c.saturating-sub-i-end.ensures) in
+    let h : n ≤ i = omega (arith, c.loop-i-test.false, c.saturating_sub-i-end.ensures) in
     let few : n ≤ 64 = omega (arith, c.requires.few) in
     let done = ends c.loop-i.notes.slots.now c.loop-i.notes.len (all_notes parent rank (drop i (take n left)) (part_in tables rows))
     c.args.notes.now.slots.now c.args.notes.now.len all c.loop-i.invariant.3 (notes_end parent rank left n i tables rows c.told-left few h) in

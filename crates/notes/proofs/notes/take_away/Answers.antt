@@ -24,8 +24,8 @@ strip-requires c =
       room = room_first c.args.notes.now.slots.now c.args.notes.now.len (edges u (others (joins_in rows) u f a)) old (node u f a) c.requires.room;
     }
 
-pub note-ends-requires : goal.note-ends-requires
-note-ends-requires c =
+pub note_ends-requires : goal.note_ends-requires
+note_ends-requires c =
     let rows = c.args.rows.now in
     let u = c.args.u in
     let f = c.args.f in

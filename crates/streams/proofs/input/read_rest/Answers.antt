@@ -8,23 +8,23 @@ none_made : {X E : Type 0} (r : Result X E) (P : X → Type 0) → is_err r ≡ 
 none_made (Ok x) P e = absurd (clash e)
 none_made (Err y) P e = tt
 
-pub returns-in-err-n : goal.returns-in-err-n
-returns-in-err-n g c =
+pub returns-in_err-n : goal.returns-in_err-n
+returns-in_err-n g c =
     let text = c.args.text.now in
     let low : c.args.len ≤ length text = omega arith in
     record {
-      within = none_made c.from-residual-in-err-n.result _ c.from-residual-in-err-n.ensures.0;
-      grows = none_made c.from-residual-in-err-n.result _ c.from-residual-in-err-n.ensures.0;
+      within = none_made c.from_residual-in_err-n.result _ c.from_residual-in_err-n.ensures.0;
+      grows = none_made c.from_residual-in_err-n.result _ c.from_residual-in_err-n.ensures.0;
       kept = take-put_mid_below c.args.len (length text - c.args.len) text c.read_whole.new.buffer c.args.len (omega arith) low;
     }
 
-pub returns-in-err-drop-rest-2 : goal.returns-in-err-drop-rest-2
-returns-in-err-drop-rest-2 g c =
+pub returns-in_err-drop_rest-2 : goal.returns-in_err-drop_rest-2
+returns-in_err-drop_rest-2 g c =
     let text = c.args.text.now in
     let low : c.args.len ≤ length text = omega arith in
     record {
-      within = none_made c.from-residual-in-err-drop-rest-2.result _ c.from-residual-in-err-drop-rest-2.ensures.0;
-      grows = none_made c.from-residual-in-err-drop-rest-2.result _ c.from-residual-in-err-drop-rest-2.ensures.0;
+      within = none_made c.from_residual-in_err-drop_rest-2.result _ c.from_residual-in_err-drop_rest-2.ensures.0;
+      grows = none_made c.from_residual-in_err-drop_rest-2.result _ c.from_residual-in_err-drop_rest-2.ensures.0;
       kept = take-put_mid_below c.args.len (length text - c.args.len) text c.read_whole.new.buffer c.args.len (omega arith) low;
     }
 

@@ -4,10 +4,10 @@ use Rattle.texts.specs.ListRead.{end_at}
 use Rattle.texts.proofs.Refused.{follows_so}
 use Rattle.texts.proofs.list.check_end.Goals as goal
 
-pub returns-in-err--line : goal.returns-in-err--line
-returns-in-err--line c =
-    let a : c.from-residual.result ≡ end_at c.args.text.now c.args.at = search rules in
-    record { answer = a; follows = follows_so c.args.text.now c.args.at c.from-residual.result a; near = search rules }
+pub returns-in_err-_line : goal.returns-in_err-_line
+returns-in_err-_line c =
+    let a : c.from_residual.result ≡ end_at c.args.text.now c.args.at = search rules in
+    record { answer = a; follows = follows_so c.args.text.now c.args.at c.from_residual.result a; near = search rules }
 
 pub returns : goal.returns
 returns c =

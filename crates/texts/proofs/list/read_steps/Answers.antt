@@ -10,26 +10,26 @@ pub loop-i-preserved : goal.loop-i-preserved
 loop-i-preserved c =
     let text = c.args.text.now in
     let whole = steps_read text c.args.at c.args.count 0 c.args.records.now in
-    let ok = sym c.step_line.ensures.answer ∙ c.in-ok-records.was in
-    let more : c.args.at + 17 * c.loop-i.i + 17 ≤ length text = c.in-ok-records.ensures.within in (
-      steps_on whole text c.args.at c.args.count c.loop-i.i c.loop-i.records c.loop-i-test.true c.loop-i.invariant.0 c.in-ok-records.field-0 ok,
+    let ok = sym c.step_line.ensures.answer ∙ c.in_ok-records.was in
+    let more : c.args.at + 17 * c.loop-i.i + 17 ≤ length text = c.in_ok-records.ensures.within in (
+      steps_on whole text c.args.at c.args.count c.loop-i.i c.loop-i.records c.loop-i-test.true c.loop-i.invariant.0 c.in_ok-records.field-0 ok,
       omega arith,
     )
 
-pub returns-in-err-records : goal.returns-in-err-records
-returns-in-err-records c =
+pub returns-in_err-records : goal.returns-in_err-records
+returns-in_err-records c =
     let text = c.args.text.now in
     let whole = steps_read text c.args.at c.args.count 0 c.args.records.now in
-    let p = err_from_is_err_and c.from-residual.result c.from-residual.ensures.1 in
-    let refused = sym c.step_line.ensures.answer ∙ c.in-err-records.was in
-    let e = steps_off whole text c.args.at c.args.count c.loop-i.i c.loop-i.records c.loop-i-test.true c.loop-i.invariant.0 c.in-err-records.field-0.0 refused in
+    let p = err_from_is_err_and c.from_residual.result c.from_residual.ensures.1 in
+    let refused = sym c.step_line.ensures.answer ∙ c.in_err-records.was in
+    let e = steps_off whole text c.args.at c.args.count c.loop-i.i c.loop-i.records c.loop-i-test.true c.loop-i.invariant.0 c.in_err-records.field-0.0 refused in
     record {
       answer = p.1 ∙ ap (λ f. Err f) p.2 ∙ sym (ap (λ (s : StepsTold). s.told) e);
       filled = sym (ap (λ (s : StepsTold). s.records) e);
-      within = made_refused c.from-residual.result p.0 _ p.1;
+      within = made_refused c.from_residual.result p.0 _ p.1;
       near =
-          let close : text_value c.in-err-records.field-0.0 ≤ length text + 16 = omega (arith, c.in-err-records.ensures.near, c.loop-i.invariant.1) in
-          refused_on c.from-residual.result p.0 c.in-err-records.field-0.0 (λ f. text_value f ≤ length text + 16) p.1 p.2 close;
+          let close : text_value c.in_err-records.field-0.0 ≤ length text + 16 = omega (arith, c.in_err-records.ensures.near, c.loop-i.invariant.1) in
+          refused_on c.from_residual.result p.0 c.in_err-records.field-0.0 (λ f. text_value f ≤ length text + 16) p.1 p.2 close;
     }
 
 pub returns : goal.returns

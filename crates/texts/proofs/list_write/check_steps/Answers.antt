@@ -7,12 +7,12 @@ use Rattle.texts.proofs.list_write.check_steps.Goals as goal
 pub loop-i-preserved : goal.loop-i-preserved
 loop-i-preserved c =
     let l = c.args.steps.now in
-    over_on (steps_over 34 l) l c.loop-i.i c.loop-i.invariant (Edge 0 0) c.loop-i-test.true c.if-is-over.ensures
+    over_on (steps_over 34 l) l c.loop-i.i c.loop-i.invariant (Edge 0 0) c.loop-i-test.true c.if-is_over.ensures
 
-pub returns-then-is-over : goal.returns-then-is-over
-returns-then-is-over c =
+pub returns-then-is_over : goal.returns-then-is_over
+returns-then-is_over c =
     let l = c.args.steps.now in
-    sym (over_off (steps_over 34 l) l c.loop-i.i c.loop-i.invariant (Edge 0 0) c.loop-i-test.true c.if-is-over.ensures)
+    sym (over_off (steps_over 34 l) l c.loop-i.i c.loop-i.invariant (Edge 0 0) c.loop-i-test.true c.if-is_over.ensures)
 
 pub returns : goal.returns
 returns c =

@@ -5,8 +5,8 @@ use Rattle.traversal.specs.Folding.{left_at}
 use Rattle.traversal.proofs.Finished.{some_left, few_left, way_start, way_fits, way_on, way_end}
 use Rattle.traversal.proofs.articulations.articulations.Goals as goal
 
-pub overflow-sub-last : goal.overflow-sub-last
-overflow-sub-last c = some_left c.requires.0 (row_joins c.args.rows.now) c.args.start c.args.state.now c.requires.1
+pub overflow_sub-last : goal.overflow_sub-last
+overflow_sub-last c = some_left c.requires.0 (row_joins c.args.rows.now) c.args.start c.args.state.now c.requires.1
 
 pub loop-k-init : goal.loop-k-init
 loop-k-init c = ((c.told-rows, c.fits-rows), λ U w. way_start U c.args.rows.now c.args.start c.args.state.now)

@@ -19,23 +19,23 @@ loop-turn-init c =
 pub loop-turn-preserved : goal.loop-turn-preserved
 loop-turn-preserved c =
     let low : c.args.tables < 2 ^ 64 = omega arith in
-    turned (bit c.args.tables) (row_joins c.args.rows.now) c.args.start c.loop-turn.-turn c.turn.new.state c.turn.new.stack.len c.turn.new.stack.slots.now
-    (c.if-not-turn.ensures.moves (bit c.args.tables) (moves c.loop-turn.-turn (bit c.args.tables) (row_joins c.args.rows.now) (at_start c.args.start))
+    turned (bit c.args.tables) (row_joins c.args.rows.now) c.args.start c.loop-turn._turn c.turn.new.state c.turn.new.stack.len c.turn.new.stack.slots.now
+    (c.if-not-turn.ensures.moves (bit c.args.tables) (moves c.loop-turn._turn (bit c.args.tables) (row_joins c.args.rows.now) (at_start c.args.start))
     (λ a. bit_small c.args.tables 64 a low) c.loop-turn.invariant)
 
 pub turn-requires : goal.turn-requires
 turn-requires c =
     let low : c.args.tables < 2 ^ 64 = omega arith in
-    (bit c.args.tables, moves c.loop-turn.-turn (bit c.args.tables) (row_joins c.args.rows.now) (at_start c.args.start), (λ a. bit_small c.args.tables 64 a low), c.loop-turn.invariant)
+    (bit c.args.tables, moves c.loop-turn._turn (bit c.args.tables) (row_joins c.args.rows.now) (at_start c.args.start), (λ a. bit_small c.args.tables 64 a low), c.loop-turn.invariant)
 
 pub returns-then-not-turn : goal.returns-then-not-turn
 returns-then-not-turn c =
     let low : c.args.tables < 2 ^ 64 = omega arith in
-    stopped_stands (bit c.args.tables) (row_joins c.args.rows.now) c.args.start c.loop-turn.-turn c.turn.new.state c.loop-turn-test.true
-    (c.if-not-turn.ensures.moves (bit c.args.tables) (moves c.loop-turn.-turn (bit c.args.tables) (row_joins c.args.rows.now) (at_start c.args.start))
+    stopped_stands (bit c.args.tables) (row_joins c.args.rows.now) c.args.start c.loop-turn._turn c.turn.new.state c.loop-turn-test.true
+    (c.if-not-turn.ensures.moves (bit c.args.tables) (moves c.loop-turn._turn (bit c.args.tables) (row_joins c.args.rows.now) (at_start c.args.start))
     (λ a. bit_small c.args.tables 64 a low) c.loop-turn.invariant)
 
 pub returns : goal.returns
 returns c =
-    let last : c.loop-turn.-turn ≡ 128 = omega arith in
+    let last : c.loop-turn._turn ≡ 128 = omega arith in
     subst (λ k. Stands (bit c.args.tables) (moves k (bit c.args.tables) (row_joins c.args.rows.now) (at_start c.args.start)) c.loop-turn.state) last c.loop-turn.invariant.stands

@@ -5,4 +5,4 @@ use Rattle.traversal.specs.Standing.{row_joins, Standing}
 use Rattle.traversal.proofs.search.search.Given as goal
 
 abbrev pub invariant-loop-turn : goal.invariant-loop-turn
-invariant-loop-turn l = Standing (bit l.tables) (moves l.-turn (bit l.tables) (row_joins l.rows) (at_start l.start)) l.state l.stack.len l.stack.slots.now
+invariant-loop-turn l = Standing (bit l.tables) (moves l._turn (bit l.tables) (row_joins l.rows) (at_start l.start)) l.state l.stack.len l.stack.slots.now

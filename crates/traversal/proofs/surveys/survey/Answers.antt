@@ -4,8 +4,8 @@ use Rattle.bits.proofs.Edits.{simple_of}
 use Rattle.traversal.proofs.Surveying.{may_survey, survey_of}
 use Rattle.traversal.proofs.surveys.survey.Goals as goal
 
-pub survey-among-requires : goal.survey-among-requires
-survey-among-requires c =
+pub survey_among-requires : goal.survey_among-requires
+survey_among-requires c =
     let g = c.args.graph.now in
     may_survey g.count g.rows (simple_of g) c.tables-tables.result c.rows-rows.result c.tables-tables.ensures c.rows-rows.ensures c.first_tables.result c.first_tables.ensures
     c.min.result (omega arith)

@@ -6,10 +6,11 @@ use Rattle.bits.proofs.Edits.{empty_means, owed}
 use Rattle.bits.proofs.table.BitTable.new.Goals as goal
 
 -- the rows mean no joins, between 1 to 64 tables
-pub invariant-of-result : goal.invariant-of-result
-invariant-of-result c =
+pub invariant_of-result : goal.invariant_of-result
+invariant_of-result c =
     let n = c.clamp.result in
-    owed n (replicate 64 0) 0 (no_joins n) (empty_means n) (no_joins_simple n (omega arith) (omega arith)) (sym (no_joins_size n))
+    let o = owed n (replicate 64 0) 0 (no_joins n) (empty_means n) (no_joins_simple n (omega arith) (omega arith)) (sym (no_joins_size n)) in
+    record { some = o.some; few = o.few; symmetric = o.symmetric; loopless = o.loopless; within = o.within; counted = o.counted; fits = o.fits }
 
 pub returns : goal.returns
 returns c =

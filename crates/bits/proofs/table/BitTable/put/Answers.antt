@@ -6,16 +6,17 @@ use Rattle.bits.proofs.Edits.{simple_of, join_means, owed}
 use Rattle.bits.proofs.table.BitTable.put.Goals as goal
 
 -- the rows mean the graph with the pair, which is simple and has one join more
-pub invariant-of-self : goal.invariant-of-self
-invariant-of-self c =
+pub invariant_of-self : goal.invariant_of-self
+invariant_of-self c =
     let t = c.args.self.now in
     let m = rows_graph t.count t.rows in
     let long : 64 ≤ length t.rows = omega arith in
     let more = joining_size m c.args.a c.args.b c.requires.0 c.requires.1.0 c.requires.1.1.0 (simple_of t) c.requires.1.1.1 in
-    owed t.count _ _ (joining m c.args.a c.args.b)
+    let o = owed t.count _ _ (joining m c.args.a c.args.b)
     (join_means t.count t.rows c.args.a c.args.b (simple_of t) long c.requires.0 c.requires.1.0 c.requires.1.1.0)
     (joining_simple m c.args.a c.args.b c.requires.0 c.requires.1.0 c.requires.1.1.0 (simple_of t))
-    (omega (arith, t.counted))
+    (omega (arith, t.counted)) in
+    record { some = o.some; few = o.few; symmetric = o.symmetric; loopless = o.loopless; within = o.within; counted = o.counted; fits = o.fits }
 
 pub returns : goal.returns
 returns c =

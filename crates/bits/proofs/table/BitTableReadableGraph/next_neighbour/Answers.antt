@@ -21,5 +21,5 @@ returns-then-high-eq0 c = no_high (get_or c.args.self.now.rows c.args.table 0) c
 pub returns-else-high-eq0 : goal.returns-else-high-eq0
 returns-else-high-eq0 c =
     let row = get_or c.args.self.now.rows c.args.table 0 in
-    let low : row / 2 ^ c.args.bound < 2 ^ 64 = omega (arith, shr_le row c.args.bound, c.type-inv.self) in
+    let low : row / 2 ^ c.args.bound < 2 ^ 64 = omega (arith, shr_le row c.args.bound, c.type_inv.self) in
     lowest_high row c.args.bound low (omega arith)

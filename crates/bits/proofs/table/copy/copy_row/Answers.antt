@@ -23,8 +23,8 @@ put-requires g c =
       ),
     )
 
-pub overflow-add-bound-in-Some : goal.overflow-add-bound-in-Some
-overflow-add-bound-in-Some g c =
+pub overflow_add-bound-in-Some : goal.overflow_add-bound-in-Some
+overflow_add-bound-in-Some g c =
     let m = g.G.ReadableGraph.meaning c.args.graph.now in
     let s = g.G.ReadableGraph.simple c.args.graph.now in
     let few : table_count m ≤ 64 = s.few in
@@ -54,4 +54,4 @@ pub returns : goal.returns
 returns g c =
     let m = g.G.ReadableGraph.meaning c.args.graph.now in
     let s = g.G.ReadableGraph.simple c.args.graph.now in
-    c.loop-w.invariant.0 ∙ copied_row m s c.args.v c.loop-w.bound c.loop-w.invariant.1 c.in-default.ensures
+    c.loop-w.invariant.0 ∙ copied_row m s c.args.v c.loop-w.bound c.loop-w.invariant.1 c.in_default.ensures
