@@ -7,35 +7,35 @@ use Rattle.assembly.proofs.Requested.{from_zero, refused_so, accepted_fit, given
 use Rattle.assembly.proofs.Laws.{told_list, told_legal, told_refused, told_named, told_plays}
 use Rattle.assembly.proofs.build.build.Goals as goal
 
-pub returns-in-err-judge : goal.returns-in-err-judge
-returns-in-err-judge g c =
+pub returns-in_err-judge : goal.returns-in_err-judge
+returns-in_err-judge g c =
     let m = g.G.ReadableGraph.meaning c.args.graph.now in
     let s = g.G.ReadableGraph.simple c.args.graph.now in
     let l = c.args.records.now in
-    let copy = c.copy-of-copy.result in
-    let p = err_from_is_err_and c.from-residual.result c.from-residual.ensures.1 in
-    let both = refused_so m (rows_graph copy.count copy.rows) c.copy-of-copy.ensures c.survey-found.result (from_zero (rows_graph copy.count copy.rows) (copy.count - 1) c.survey-found.result c.survey-found.ensures)
-    c.tables.result c.joins.result c.saturating-sub-steps.result (length l) c.tables.ensures c.joins.ensures c.saturating-sub-steps.ensures c.judge.result c.judge.ensures.answer
-    c.judge.ensures.fits.0 c.judge.ensures.fits.1 c.in-err-judge.field-0.0 p.0 c.from-residual.result l refl c.in-err-judge.was p.1 (sym p.2) in
+    let copy = c.copy_of-copy.result in
+    let p = err_from_is_err_and c.from_residual.result c.from_residual.ensures.1 in
+    let both = refused_so m (rows_graph copy.count copy.rows) c.copy_of-copy.ensures c.survey-found.result (from_zero (rows_graph copy.count copy.rows) (copy.count - 1) c.survey-found.result c.survey-found.ensures)
+    c.tables.result c.joins.result c.saturating_sub-steps.result (length l) c.tables.ensures c.joins.ensures c.saturating_sub-steps.ensures c.judge.result c.judge.ensures.answer
+    c.judge.ensures.fits.0 c.judge.ensures.fits.1 c.in_err-judge.field-0.0 p.0 c.from_residual.result l refl c.in_err-judge.was p.1 (sym p.2) in
     record {
       answer = both.0;
       filled = both.1;
-      listed = told_list m s l c.from-residual.result l both.0 both.1;
-      legal = told_legal m s l c.from-residual.result l both.0 both.1;
-      refused = told_refused m s l c.from-residual.result l both.0 both.1;
-      named = told_named m s l c.from-residual.result l both.0 both.1;
-      plays = told_plays m s l c.from-residual.result l both.0 both.1;
+      listed = told_list m s l c.from_residual.result l both.0 both.1;
+      legal = told_legal m s l c.from_residual.result l both.0 both.1;
+      refused = told_refused m s l c.from_residual.result l both.0 both.1;
+      named = told_named m s l c.from_residual.result l both.0 both.1;
+      plays = told_plays m s l c.from_residual.result l both.0 both.1;
     }
 
 pub lay-triangle-requires : goal.lay-triangle-requires
 lay-triangle-requires g c =
     let m = g.G.ReadableGraph.meaning c.args.graph.now in
-    let copy = c.copy-of-copy.result in
+    let copy = c.copy_of-copy.result in
     record {
       surveyed = from_zero (rows_graph copy.count copy.rows) (copy.count - 1) c.survey-found.result c.survey-found.ensures;
-      room = accepted_fit m (rows_graph copy.count copy.rows) c.copy-of-copy.ensures c.survey-found.result (from_zero (rows_graph copy.count copy.rows) (copy.count - 1) c.survey-found.result c.survey-found.ensures)
-          c.tables.result c.joins.result c.saturating-sub-steps.result (length c.args.records.now) c.tables.ensures c.joins.ensures c.saturating-sub-steps.ensures
-          c.judge.result c.judge.ensures.answer c.judge.ensures.fits.0 c.judge.ensures.fits.1 (simple_of copy) c.in-ok-judge.was;
+      room = accepted_fit m (rows_graph copy.count copy.rows) c.copy_of-copy.ensures c.survey-found.result (from_zero (rows_graph copy.count copy.rows) (copy.count - 1) c.survey-found.result c.survey-found.ensures)
+          c.tables.result c.joins.result c.saturating_sub-steps.result (length c.args.records.now) c.tables.ensures c.joins.ensures c.saturating_sub-steps.ensures
+          c.judge.result c.judge.ensures.answer c.judge.ensures.fits.0 c.judge.ensures.fits.1 (simple_of copy) c.in_ok-judge.was;
     }
 
 pub returns : goal.returns
@@ -43,13 +43,13 @@ returns g c =
     let m = g.G.ReadableGraph.meaning c.args.graph.now in
     let s = g.G.ReadableGraph.simple c.args.graph.now in
     let l = c.args.records.now in
-    let copy = c.copy-of-copy.result in
-    let r = Ok (record { triangle = c.lay-triangle.result; steps = c.saturating-sub-steps.result }) in
+    let copy = c.copy_of-copy.result in
+    let r = Ok (record { triangle = c.lay-triangle.result; steps = c.saturating_sub-steps.result }) in
     let l' = c.lay-triangle.new.records in
-    let both = given_so m (rows_graph copy.count copy.rows) c.copy-of-copy.ensures c.survey-found.result (from_zero (rows_graph copy.count copy.rows) (copy.count - 1) c.survey-found.result c.survey-found.ensures)
-    c.tables.result c.joins.result c.saturating-sub-steps.result (length l) c.tables.ensures c.joins.ensures c.saturating-sub-steps.ensures
+    let both = given_so m (rows_graph copy.count copy.rows) c.copy_of-copy.ensures c.survey-found.result (from_zero (rows_graph copy.count copy.rows) (copy.count - 1) c.survey-found.result c.survey-found.ensures)
+    c.tables.result c.joins.result c.saturating_sub-steps.result (length l) c.tables.ensures c.joins.ensures c.saturating_sub-steps.ensures
     c.judge.result c.judge.ensures.answer c.judge.ensures.fits.0 c.judge.ensures.fits.1
-    c.lay-triangle.result l l' refl c.in-ok-judge.was c.lay-triangle.ensures.triangle c.lay-triangle.ensures.steps in
+    c.lay-triangle.result l l' refl c.in_ok-judge.was c.lay-triangle.ensures.triangle c.lay-triangle.ensures.steps in
     record {
       answer = both.0;
       filled = both.1;

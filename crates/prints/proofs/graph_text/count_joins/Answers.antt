@@ -8,8 +8,8 @@ use Rattle.prints.proofs.graph_text.count_joins.Goals as goal
 pub loop-v-init : goal.loop-v-init
 loop-v-init g c = omega (arith, all_length (g.G.ReadableGraph.meaning c.args.graph.now) (g.G.ReadableGraph.simple c.args.graph.now))
 
-pub overflow-add-count : goal.overflow-add-count
-overflow-add-count g c =
+pub overflow_add-count : goal.overflow_add-count
+overflow_add-count g c =
     let m = g.G.ReadableGraph.meaning c.args.graph.now in
     let most : size m ≤ 2016 = size_most m (g.G.ReadableGraph.simple c.args.graph.now).few in
     let here : length (rest_rows m c.loop-v.v) ≡ length (rest m c.loop-v.v (c.loop-v.v + 1)) + length (rest_rows m (c.loop-v.v + 1)) = rows_length m c.loop-v.v (omega arith) in

@@ -4,8 +4,8 @@ use Rattle.theory.specs.Graph.{table_count}
 use Rattle.prints.proofs.Rows.{rest, other_small, row_next, row_over}
 use Rattle.prints.proofs.graph_text.row_count.Goals as goal
 
-pub overflow-add-bound-in-Some : goal.overflow-add-bound-in-Some
-overflow-add-bound-in-Some g c =
+pub overflow_add-bound-in-Some : goal.overflow_add-bound-in-Some
+overflow_add-bound-in-Some g c =
     let m = g.G.ReadableGraph.meaning c.args.graph.now in
     let s = g.G.ReadableGraph.simple c.args.graph.now in
     let few : table_count m ≤ 64 = s.few in
@@ -24,5 +24,5 @@ loop-w-preserved g c =
 pub returns : goal.returns
 returns g c =
     let m = g.G.ReadableGraph.meaning c.args.graph.now in
-    let here : length (rest m c.args.v c.loop-w.bound) ≡ 0 = ap length (row_over m c.args.v c.loop-w.bound c.in-default.ensures) in
+    let here : length (rest m c.args.v c.loop-w.bound) ≡ 0 = ap length (row_over m c.args.v c.loop-w.bound c.in_default.ensures) in
     omega arith

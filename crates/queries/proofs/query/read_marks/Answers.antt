@@ -13,28 +13,28 @@ pub loop-i-preserved : goal.loop-i-preserved
 loop-i-preserved c =
     let text = c.args.text.now in
     let whole = marks_read text c.args.at c.args.count c.args.marks.now in
-    let ok = sym c.pair_line.ensures.answer ∙ c.in-ok-v.was in
-    let more : c.args.at + 17 * c.loop-i.i + 17 ≤ length text = c.in-ok-v.ensures.within in (
-      marks_on text c.args.at whole c.args.count c.loop-i.i c.loop-i.marks c.loop-i-test.true c.loop-i.invariant.0 (c.in-ok-v.v, c.in-ok-v.w) ok,
+    let ok = sym c.pair_line.ensures.answer ∙ c.in_ok-v.was in
+    let more : c.args.at + 17 * c.loop-i.i + 17 ≤ length text = c.in_ok-v.ensures.within in (
+      marks_on text c.args.at whole c.args.count c.loop-i.i c.loop-i.marks c.loop-i-test.true c.loop-i.invariant.0 (c.in_ok-v.v, c.in_ok-v.w) ok,
       length-set c.loop-i.marks c.loop-i.i _ ∙ c.loop-i.invariant.1,
       omega arith,
     )
 
-pub returns-in-err-v : goal.returns-in-err-v
-returns-in-err-v c =
+pub returns-in_err-v : goal.returns-in_err-v
+returns-in_err-v c =
     let text = c.args.text.now in
     let whole = marks_read text c.args.at c.args.count c.args.marks.now in
-    let f = c.in-err-v.field-0.0 in
-    let p = err_from_is_err_and c.from-residual.result c.from-residual.ensures.1 in
-    let bad = sym c.pair_line.ensures.answer ∙ c.in-err-v.was in
+    let f = c.in_err-v.field-0.0 in
+    let p = err_from_is_err_and c.from_residual.result c.from_residual.ensures.1 in
+    let bad = sym c.pair_line.ensures.answer ∙ c.in_err-v.was in
     let e = marks_off text c.args.at whole c.args.count c.loop-i.i c.loop-i.marks c.loop-i-test.true c.loop-i.invariant.0 f bad in
     record {
       answer = p.1 ∙ ap (λ f. Err f) p.2 ∙ sym (ap (λ (t : Told (List Mark)). t.told) e);
       left = sym (ap (λ (t : Told (List Mark)). t.left) e);
-      within = made_refused c.from-residual.result p.0 _ p.1;
+      within = made_refused c.from_residual.result p.0 _ p.1;
       near =
-          let close : text_value f ≤ length text + 16 = omega (arith, c.in-err-v.ensures.near, c.loop-i.invariant.2) in
-          refused_on c.from-residual.result p.0 (Text f) (λ f. query_place f ≤ length text + 16) p.1 p.2 close;
+          let close : text_value f ≤ length text + 16 = omega (arith, c.in_err-v.ensures.near, c.loop-i.invariant.2) in
+          refused_on c.from_residual.result p.0 (Text f) (λ f. query_place f ≤ length text + 16) p.1 p.2 close;
     }
 
 pub returns : goal.returns

@@ -12,19 +12,19 @@ use Rattle.queries.proofs.Told.{told_of, clamped_same, head_off, joins_off, mark
 use Rattle.queries.proofs.query.read_query.Goals as goal
 
 -- the G line is refused
-pub returns-in-err-head : goal.returns-in-err-head
-returns-in-err-head c =
+pub returns-in_err-head : goal.returns-in_err-head
+returns-in_err-head c =
     let text = c.args.text.now in
     let l = c.args.marks.now in
     let rows = c.args.rows.now.records in
     let wide = c.args.rows.now.full in
     let g = rows_graph c.new.result.count c.new.result.rows in
-    let r = c.from-residual.result in
-    let f = c.in-err-head.field-0.0 in
-    let p = err_from_is_err_and r c.from-residual.ensures.1 in
-    let bad = sym c.head_line.ensures.answer ∙ c.in-err-head.was in
+    let r = c.from_residual.result in
+    let f = c.in_err-head.field-0.0 in
+    let p = err_from_is_err_and r c.from_residual.ensures.1 in
+    let bad = sym c.head_line.ensures.answer ∙ c.in_err-head.was in
     let so = read_so text c.args.at l rows wide r (Err (Text f)) g l rows (head_off text c.args.at l rows f bad ∙ ap (λ m. told_of (Err (Text f)) m l rows) (sym c.new.ensures)) (p.1 ∙ ap (λ f. Err f) p.2) in
-    let close : text_value f ≤ c.args.at + length text + 63 = omega (arith, c.in-err-head.ensures.near) in
+    let close : text_value f ≤ c.args.at + length text + 63 = omega (arith, c.in_err-head.ensures.near) in
     record {
       answer = so.answer;
       meant = so.meant;
@@ -36,25 +36,25 @@ returns-in-err-head c =
     }
 
 -- a J line is refused
-pub returns-in-err-read-joins : goal.returns-in-err-read-joins
-returns-in-err-read-joins c =
+pub returns-in_err-read_joins : goal.returns-in_err-read_joins
+returns-in_err-read_joins c =
     let text = c.args.text.now in
     let at = c.args.at in
     let l = c.args.marks.now in
     let rows = c.args.rows.now.records in
     let wide = c.args.rows.now.full in
-    let h = c.in-ok-head.head in
-    let limits = c.in-ok-head.ensures.within in
+    let h = c.in_ok-head.head in
+    let limits = c.in_ok-head.ensures.within in
     let g = rows_graph c.new-2.result.count c.new-2.result.rows in
     let g' = rows_graph c.read_joins.new.graph.count c.read_joins.new.graph.rows in
-    let r = c.from-residual-in-err-read-joins.result in
-    let f = c.in-err-read-joins.field-0.0 in
-    let p = err_from_is_err_and r c.from-residual-in-err-read-joins.ensures.1 in
-    let headed = sym c.head_line.ensures.answer ∙ c.in-ok-head.was in
+    let r = c.from_residual-in_err-read_joins.result in
+    let f = c.in_err-read_joins.field-0.0 in
+    let p = err_from_is_err_and r c.from_residual-in_err-read_joins.ensures.1 in
+    let headed = sym c.head_line.ensures.answer ∙ c.in_ok-head.was in
     let new = c.new-2.ensures ∙ ap no_joins (clamped_same h.tables limits.1 limits.2) in
-    let e = joins_off text at l rows h headed g g' new c.read_joins.result c.read_joins.ensures.answer c.read_joins.ensures.left f c.in-err-read-joins.was in
+    let e = joins_off text at l rows h headed g g' new c.read_joins.result c.read_joins.ensures.answer c.read_joins.ensures.left f c.in_err-read_joins.was in
     let so = read_so text at l rows wide r (Err f) g' l rows e (p.1 ∙ ap (λ f. Err f) p.2) in
-    let close : query_place f ≤ at + length text + 63 = omega (arith, c.in-err-read-joins.ensures.near) in
+    let close : query_place f ≤ at + length text + 63 = omega (arith, c.in_err-read_joins.ensures.near) in
     record {
       answer = so.answer;
       meant = so.meant;
@@ -66,27 +66,27 @@ returns-in-err-read-joins c =
     }
 
 -- an M line is refused
-pub returns-in-err-read-marks : goal.returns-in-err-read-marks
-returns-in-err-read-marks c =
+pub returns-in_err-read_marks : goal.returns-in_err-read_marks
+returns-in_err-read_marks c =
     let text = c.args.text.now in
     let at = c.args.at in
     let l = c.args.marks.now in
     let rows = c.args.rows.now.records in
     let wide = c.args.rows.now.full in
-    let h = c.in-ok-head.head in
-    let limits = c.in-ok-head.ensures.within in
+    let h = c.in_ok-head.head in
+    let limits = c.in_ok-head.ensures.within in
     let g = rows_graph c.new-2.result.count c.new-2.result.rows in
     let g' = rows_graph c.read_joins.new.graph.count c.read_joins.new.graph.rows in
-    let r = c.from-residual-in-err-read-marks.result in
-    let f = c.in-err-read-marks.field-0.0 in
-    let p = err_from_is_err_and r c.from-residual-in-err-read-marks.ensures.1 in
-    let headed = sym c.head_line.ensures.answer ∙ c.in-ok-head.was in
+    let r = c.from_residual-in_err-read_marks.result in
+    let f = c.in_err-read_marks.field-0.0 in
+    let p = err_from_is_err_and r c.from_residual-in_err-read_marks.ensures.1 in
+    let headed = sym c.head_line.ensures.answer ∙ c.in_ok-head.was in
     let new = c.new-2.ensures ∙ ap no_joins (clamped_same h.tables limits.1 limits.2) in
-    let e = marks_off text at l rows h headed g g' new c.read_joins.result c.read_joins.ensures.answer c.read_joins.ensures.left c.in-ok-read-joins.was
-    c.marks-due-count.result c.marks-due-count.ensures c.read_marks.new.marks c.read_marks.result c.read_marks.ensures.answer c.read_marks.ensures.left
-    f c.in-err-read-marks.was in
+    let e = marks_off text at l rows h headed g g' new c.read_joins.result c.read_joins.ensures.answer c.read_joins.ensures.left c.in_ok-read_joins.was
+    c.marks_due-count.result c.marks_due-count.ensures c.read_marks.new.marks c.read_marks.result c.read_marks.ensures.answer c.read_marks.ensures.left
+    f c.in_err-read_marks.was in
     let so = read_so text at l rows wide r (Err f) g' c.read_marks.new.marks rows e (p.1 ∙ ap (λ f. Err f) p.2) in
-    let close : query_place f ≤ at + length text + 63 = omega (arith, c.in-err-read-marks.ensures.near) in
+    let close : query_place f ≤ at + length text + 63 = omega (arith, c.in_err-read_marks.ensures.near) in
     record {
       answer = so.answer;
       meant = so.meant;
@@ -98,28 +98,28 @@ returns-in-err-read-marks c =
     }
 
 -- an R line is refused, or what follows
-pub returns-in-err-end : goal.returns-in-err-end
-returns-in-err-end c =
+pub returns-in_err-end : goal.returns-in_err-end
+returns-in_err-end c =
     let text = c.args.text.now in
     let at = c.args.at in
     let l = c.args.marks.now in
     let rows = c.args.rows.now.records in
     let wide = c.args.rows.now.full in
-    let h = c.in-ok-head.head in
-    let limits = c.in-ok-head.ensures.within in
+    let h = c.in_ok-head.head in
+    let limits = c.in_ok-head.ensures.within in
     let g = rows_graph c.new-2.result.count c.new-2.result.rows in
     let g' = rows_graph c.read_joins.new.graph.count c.read_joins.new.graph.rows in
-    let r = c.from-residual-in-err-end.result in
-    let f = c.in-err-end.field-0.0 in
-    let p = err_from_is_err_and r c.from-residual-in-err-end.ensures.1 in
-    let headed = sym c.head_line.ensures.answer ∙ c.in-ok-head.was in
+    let r = c.from_residual-in_err-end.result in
+    let f = c.in_err-end.field-0.0 in
+    let p = err_from_is_err_and r c.from_residual-in_err-end.ensures.1 in
+    let headed = sym c.head_line.ensures.answer ∙ c.in_ok-head.was in
     let new = c.new-2.ensures ∙ ap no_joins (clamped_same h.tables limits.1 limits.2) in
-    let e = rows_off text at l rows h headed g g' new c.read_joins.result c.read_joins.ensures.answer c.read_joins.ensures.left c.in-ok-read-joins.was
-    c.marks-due-count.result c.marks-due-count.ensures c.read_marks.new.marks c.read_marks.result c.read_marks.ensures.answer c.read_marks.ensures.left
-    c.in-ok-read-marks.was c.read_rows.new.rows.records c.read_rows.result c.read_rows.ensures.answer c.read_rows.ensures.left
-    f c.in-err-end.was in
+    let e = rows_off text at l rows h headed g g' new c.read_joins.result c.read_joins.ensures.answer c.read_joins.ensures.left c.in_ok-read_joins.was
+    c.marks_due-count.result c.marks_due-count.ensures c.read_marks.new.marks c.read_marks.result c.read_marks.ensures.answer c.read_marks.ensures.left
+    c.in_ok-read_marks.was c.read_rows.new.rows.records c.read_rows.result c.read_rows.ensures.answer c.read_rows.ensures.left
+    f c.in_err-end.was in
     let so = read_so text at l rows wide r (Err f) g' c.read_marks.new.marks c.read_rows.new.rows.records e (p.1 ∙ ap (λ f. Err f) p.2) in
-    let close : query_place f ≤ at + length text + 63 = omega (arith, c.in-err-end.ensures.near) in
+    let close : query_place f ≤ at + length text + 63 = omega (arith, c.in_err-end.ensures.near) in
     record {
       answer = so.answer;
       meant = so.meant;
@@ -137,16 +137,16 @@ returns c =
     let l = c.args.marks.now in
     let rows = c.args.rows.now.records in
     let wide = c.args.rows.now.full in
-    let h = c.in-ok-head.head in
-    let limits = c.in-ok-head.ensures.within in
+    let h = c.in_ok-head.head in
+    let limits = c.in_ok-head.ensures.within in
     let g = rows_graph c.new-2.result.count c.new-2.result.rows in
     let g' = rows_graph c.read_joins.new.graph.count c.read_joins.new.graph.rows in
-    let headed = sym c.head_line.ensures.answer ∙ c.in-ok-head.was in
+    let headed = sym c.head_line.ensures.answer ∙ c.in_ok-head.was in
     let new = c.new-2.ensures ∙ ap no_joins (clamped_same h.tables limits.1 limits.2) in
-    let told = Ok (query_head h c.marks-due-count.result c.in-ok-end.end) in
-    let e = rows_on text at l rows h headed g g' new c.read_joins.result c.read_joins.ensures.answer c.read_joins.ensures.left c.in-ok-read-joins.was
-    c.marks-due-count.result c.marks-due-count.ensures c.read_marks.new.marks c.read_marks.result c.read_marks.ensures.answer c.read_marks.ensures.left
-    c.in-ok-read-marks.was c.read_rows.new.rows.records c.read_rows.result c.read_rows.ensures.answer c.read_rows.ensures.left
-    c.in-ok-end.end c.in-ok-end.was in
+    let told = Ok (query_head h c.marks_due-count.result c.in_ok-end.end) in
+    let e = rows_on text at l rows h headed g g' new c.read_joins.result c.read_joins.ensures.answer c.read_joins.ensures.left c.in_ok-read_joins.was
+    c.marks_due-count.result c.marks_due-count.ensures c.read_marks.new.marks c.read_marks.result c.read_marks.ensures.answer c.read_marks.ensures.left
+    c.in_ok-read_marks.was c.read_rows.new.rows.records c.read_rows.result c.read_rows.ensures.answer c.read_rows.ensures.left
+    c.in_ok-end.end c.in_ok-end.was in
     let so = read_so text at l rows wide told told g' c.read_marks.new.marks c.read_rows.new.rows.records e refl in
     record { answer = so.answer; meant = so.meant; marked = so.marked; counted = so.counted; accepted = so.accepted; refused = so.refused; near = tt }

@@ -13,27 +13,27 @@ loop-i-preserved c =
     let step = row_step c.args.tables text c.args.at in
     let whole = rows_read c.args.tables text c.args.at c.args.count c.args.rows.now.records in
     let did = c.read_row.ensures in
-    let more : c.args.at + 17 * c.loop-i.i + 17 ≤ length text = c.in-ok-read-row.ensures.within in (
-      lines_on step whole c.args.count c.loop-i.i c.loop-i.rows.records c.loop-i-test.true c.loop-i.invariant.0 c.read_row.new.rows.records (sym did.answer ∙ c.in-ok-read-row.was) did.left,
+    let more : c.args.at + 17 * c.loop-i.i + 17 ≤ length text = c.in_ok-read_row.ensures.within in (
+      lines_on step whole c.args.count c.loop-i.i c.loop-i.rows.records c.loop-i-test.true c.loop-i.invariant.0 c.read_row.new.rows.records (sym did.answer ∙ c.in_ok-read_row.was) did.left,
       omega arith,
     )
 
-pub returns-in-err-read-row : goal.returns-in-err-read-row
-returns-in-err-read-row c =
+pub returns-in_err-read_row : goal.returns-in_err-read_row
+returns-in_err-read_row c =
     let text = c.args.text.now in
     let step = row_step c.args.tables text c.args.at in
     let whole = rows_read c.args.tables text c.args.at c.args.count c.args.rows.now.records in
     let did = c.read_row.ensures in
-    let f = c.in-err-read-row.field-0.0 in
-    let p = err_from_is_err_and c.from-residual.result c.from-residual.ensures.1 in
-    let e = lines_off step whole c.args.count c.loop-i.i c.loop-i.rows.records c.loop-i-test.true c.loop-i.invariant.0 f (sym did.answer ∙ c.in-err-read-row.was) in
+    let f = c.in_err-read_row.field-0.0 in
+    let p = err_from_is_err_and c.from_residual.result c.from_residual.ensures.1 in
+    let e = lines_off step whole c.args.count c.loop-i.i c.loop-i.rows.records c.loop-i-test.true c.loop-i.invariant.0 f (sym did.answer ∙ c.in_err-read_row.was) in
     record {
       answer = p.1 ∙ ap (λ f. Err f) p.2 ∙ sym (ap (λ (t : Told (List RowRecord)). t.told) e);
       left = did.left ∙ sym (ap (λ (t : Told (List RowRecord)). t.left) e);
-      within = made_refused c.from-residual.result p.0 _ p.1;
+      within = made_refused c.from_residual.result p.0 _ p.1;
       near =
-          let close : query_place f ≤ length text + 16 = omega (arith, c.in-err-read-row.ensures.near, c.loop-i.invariant.1) in
-          refused_on c.from-residual.result p.0 f (λ f. query_place f ≤ length text + 16) p.1 p.2 close;
+          let close : query_place f ≤ length text + 16 = omega (arith, c.in_err-read_row.ensures.near, c.loop-i.invariant.1) in
+          refused_on c.from_residual.result p.0 f (λ f. query_place f ≤ length text + 16) p.1 p.2 close;
     }
 
 pub returns : goal.returns
