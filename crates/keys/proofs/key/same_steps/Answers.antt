@@ -6,7 +6,7 @@ use Rattle.keys.proofs.key.same_steps.Goals as goal
 pub loop-i-preserved : goal.loop-i-preserved
 loop-i-preserved c =
     let there : c.loop-i.i < length c.args.b.now = omega (arith, c.loop-i-test.true, c.if-a-b.false) in
-    take_more_same c.args.a.now c.args.b.now c.loop-i.i _ c.loop-i-test.true there c.loop-i.invariant (c.same_step.ensures.0 c.if-not-same-step.false)
+    take_more_same c.args.a.now c.args.b.now c.loop-i.i _ c.loop-i-test.true there c.loop-i.invariant (c.same_step.ensures.0 c.if-not-same_step.false)
 
 pub returns : goal.returns
 returns c = (
