@@ -5,7 +5,7 @@ use Rattle.replay.proofs.take_over.Goals as goal
 
 pub returns : goal.returns
 returns c =
-    let part = c.copy-from-slice.new.self in
-    let same = c.copy-from-slice.ensures.after in
+    let part = c.copy_from_slice.new.self in
+    let same = c.copy_from_slice.ensures.after in
     let long : length part ≡ 4096 = ap length same ∙ omega arith in
     take_at part (post_of 0 4096 c.args.text.now) 4096 long ∙ same

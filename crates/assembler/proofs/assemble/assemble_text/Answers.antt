@@ -8,8 +8,8 @@ use Rattle.assembler.proofs.assemble.assemble_text.Goals as goal
 part-is : (text : List ℕ) (len k l : ℕ) → k ≡ min len (length text) → l ≡ min k 36465 → take (l - 0) text ≡ looked_at text len
 part-is text len k l e f = ap (λ n. take n text) (omega arith)
 
-pub slice-bounds-lay-list-end : goal.slice-bounds-lay-list-end
-slice-bounds-lay-list-end c =
+pub slice_bounds-lay_list-end : goal.slice_bounds-lay_list-end
+slice_bounds-lay_list-end c =
     let text = c.args.text.now in
     let steps = c.args.steps.now in
     let marks = c.args.marks.now in
@@ -20,8 +20,8 @@ slice-bounds-lay-list-end c =
     let long : length c.assembled.new.steps ≡ 2013 = omega arith in
     omega arith
 
-pub lay-list-requires : goal.lay-list-requires
-lay-list-requires c =
+pub lay_list-requires : goal.lay_list-requires
+lay_list-requires c =
     let text = c.args.text.now in
     let steps = c.args.steps.now in
     let marks = c.args.marks.now in
