@@ -29,7 +29,7 @@ use Rattle.outcomes.specs.declared.fault.ProgramFault.TheVariants.{Query, Build}
 use Rattle.assembler.specs.Assemble.{query_in, query_then, build_last, assemble_told, printed}
 use Rattle.assembler.specs.AssembleLaw.{IsQuery, LineAmiss, GivesList, RefusesQuery, RefusesBuild}
 use Rattle.assembler.proofs.Unread.{no_query}
-use Rattle.assembler.proofs.Accepted.{new_rows, WasRead, was_read, Accepted, accepted}
+use Rattle.assembler.proofs.Accepted.{new_rows, WasRead, was_read, Accepted}
 
 module _ (text : List ℕ) (steps : List Step) (marks : List Mark) (records : length steps ≡ 2013) (lent : length marks ≡ 63) where
   -- ---- what was read is a query

@@ -1,7 +1,6 @@
 -- The laws of a build request, from the theorems on graphs.
-use Rattle.std.proofs.Common.{◌≡◌, ℕ, ◌+◌, ◌-◌, ◌<◌, ◌≤◌, Bool, true, false, eqb, ltb, ◌⊎◌, ◌↔◌, List, [], ◌∷◌, ◌++◌, length, take, drop, Ok, Err, Result, sym, refl, ap, ◌∙◌, subst, inl, inr, ⊎_elim, arith}
+use Rattle.std.proofs.Common.{◌≡◌, ℕ, ◌+◌, ◌-◌, ◌≤◌, true, ◌⊎◌, List, ◌++◌, length, take, drop, Ok, Err, Result, sym, refl, ap, ◌∙◌, subst, inl, inr, ⊎_elim, arith}
 use lib.Seq.{take-append_seam}
-use Rattle.std.proofs.lemmas.Bool.{lt-ltb}
 use Rattle.theory.specs.Graph.{Graph, Simple, joined, is_table, table_count, size, no_joins}
 use Rattle.theory.specs.Build.{LegalBuild}
 use Rattle.theory.specs.declared.step.Step.{Step}
@@ -9,8 +8,8 @@ use Rattle.theory.specs.declared.step.Triangle.{Triangle}
 use Rattle.theory.proofs.Sizes.{no_joins_simple}
 use Rattle.construction.specs.Replay.{replayed}
 use Rattle.construction.proofs.Laws.{accepted_exactly, accepted_with_room}
-use Rattle.disassembly.specs.Disassembly.{Disassembly, Given, given}
-use Rattle.disassembly.specs.Laws.{Fit, HasBuild}
+use Rattle.disassembly.specs.Disassembly.{Disassembly}
+use Rattle.disassembly.specs.Laws.{Fit}
 use Rattle.disassembly.proofs.Corners.{build_fit}
 use Rattle.disassembly.proofs.Given.{stands}
 use Rattle.disassembly.proofs.Keys.{graph_on, first_in, given_legal}

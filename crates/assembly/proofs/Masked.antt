@@ -1,9 +1,8 @@
 -- The judgement over sets kept as bits is the one over the graph that was surveyed.
-use Rattle.std.proofs.Common.{◌≡◌, ℕ, ◌+◌, ◌-◌, ◌^◌, ◌<◌, ◌≤◌, Bool, true, false, cond, not, ◌&&◌, eqb, ltb, ◌⊎◌, Some, None, Ok, Err, Option, Result, sym, refl, ap, ◌∙◌, inl, inr, ⊎_elim, arith}
-use mathlib.Core.Path.{fun_ext}
+use Rattle.std.proofs.Common.{◌≡◌, ℕ, ◌-◌, ◌^◌, ◌<◌, Bool, cond, not, ◌&&◌, ltb, Some, None, Err, Option, Result, sym, refl, ap, ◌∙◌, ⊎_elim, arith}
 use lib.Count.{count_trailing_zeros}
 use Rattle.std.proofs.lemmas.Bool.{cases_eq, eq-eqb, ne_eqb}
-use Rattle.theory.specs.Graph.{Graph, Lowest, is_table, joined, table_count, size}
+use Rattle.theory.specs.Graph.{Graph, is_table, joined, table_count, size}
 use Rattle.bits.specs.Rows.{bit}
 use Rattle.bits.proofs.Bit.{zero_bit}
 use Rattle.bits.proofs.Lowest.{none_below, set_at, some_set}

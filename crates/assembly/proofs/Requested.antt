@@ -3,7 +3,7 @@
 --   from_zero           a survey from table 0
 --   judged_so           the judgement told is that of the graph
 --   refused_so, given_so   what is answered and left where it refuses, and where the list is laid
-use Rattle.std.proofs.Common.{◌≡◌, ℕ, ◌+◌, ◌-◌, ◌<◌, ◌≤◌, min, List, ◌++◌, length, drop, Ok, Err, Result, sym, refl, ap, ◌∙◌, subst, arith}
+use Rattle.std.proofs.Common.{◌≡◌, ℕ, ◌-◌, ◌<◌, ◌≤◌, min, List, ◌++◌, length, drop, Ok, Err, Result, sym, ap, ◌∙◌, subst, arith}
 use Rattle.theory.specs.Graph.{Graph, Simple, is_table, joined, table_count, size}
 use Rattle.theory.specs.declared.step.Step.{Step}
 use Rattle.theory.specs.declared.step.Triangle.{Triangle}

@@ -5,16 +5,13 @@
 --   fit_size        the joins of a fit graph: three, and one a step of its list
 --   fit_tables      a fit graph has three tables at least
 --   Verdict, judged what each answer tells: accepted, and refused by 9, the graph is fit; by 6, 7 or 8 it is not
-use Rattle.std.proofs.Common.{◌≡◌, ℕ, zero, suc, ◌+◌, ◌-◌, ◌<◌, ◌≤◌, Bool, true, false, cond, eqb, ltb, ◌⊎◌, length, Some, None, Ok, Err, Option, Result, sym, refl, ap, ◌∙◌, subst, inl, inr, ⊎_elim, arith}
-use Rattle.std.proofs.lemmas.Bool.{cases_Bool, cases_lt, ltb-true, lt-ltb, le-ltb, false≢true}
-use Rattle.std.proofs.lemmas.Bool.Decides.{nat_tests}
+use Rattle.std.proofs.Common.{◌≡◌, ℕ, zero, suc, ◌+◌, ◌-◌, ◌<◌, ◌≤◌, Bool, true, false, cond, ltb, length, Some, None, Ok, Err, Option, Result, sym, refl, ◌∙◌, subst, ⊎_elim, arith}
+use Rattle.std.proofs.lemmas.Bool.{cases_lt, ltb-true, lt-ltb, le-ltb, false≢true}
 use Rattle.theory.specs.Graph.{Graph, Simple, joined, is_table, table_count, size, count}
-use Rattle.theory.specs.Build.{LegalBuild, whole}
-use Rattle.disassembly.specs.Walks.{SimpleOn, Connected}
+use Rattle.disassembly.specs.Walks.{SimpleOn}
 use Rattle.disassembly.specs.Reach.{lowest_unreached, lowest_separating}
-use Rattle.disassembly.specs.Disassembly.{Given, given}
 use Rattle.disassembly.specs.Laws.{Fit}
-use Rattle.disassembly.proofs.Reach.{unreached_none, connected_unreached, unreached_some, separating_none, no_separating, separating_some}
+use Rattle.disassembly.proofs.Reach.{unreached_none, unreached_some, separating_none, separating_some}
 use Rattle.disassembly.proofs.Keys.{graph_on, first_in, given_legal}
 use Rattle.disassembly.proofs.Lengths.{build_length}
 use Rattle.refusals.specs.declared.build.BuildFault.{BuildFault}

@@ -6,7 +6,7 @@
 --                           than as many records as there are steps, or accepted; `room` records are lent
 --   build_answer m room     the refusal, or the triangle and the number of steps
 --   records_after m l       the records: where the request is accepted, the steps, then the later records as they were
-use Rattle.std.specs.Prelude.{ℕ, ◌-◌, Bool, cond, List, ◌++◌, length, drop, Some, None, Ok, Err, Option, Result, nat_lt}
+use Rattle.std.specs.Prelude.{ℕ, ◌-◌, cond, List, ◌++◌, length, drop, Ok, Err, Result, nat_lt}
 use Rattle.theory.specs.Graph.{Graph, joined, is_table, table_count, size}
 use Rattle.theory.specs.declared.step.Step.{Step}
 use Rattle.disassembly.specs.Reach.{lowest_unreached, lowest_separating}

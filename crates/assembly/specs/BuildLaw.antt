@@ -7,7 +7,7 @@
 --                         graph that is connected, 9 the number of steps, which is more than the records lent
 --   PlaysBack m r l      the list given, played back into any editable graph of as many tables that has no joins and room for
 --                         those of this one, is accepted and makes the same graph
-use Rattle.std.specs.Prelude.{◌≡◌, ℕ, ◌+◌, ◌<◌, ◌≤◌, true, ◌⊎◌, ◌↔◌, List, length, take, Ok, Err, Result}
+use Rattle.std.specs.Prelude.{◌≡◌, ℕ, ◌+◌, ◌<◌, ◌≤◌, ◌⊎◌, ◌↔◌, List, length, take, Ok, Err, Result}
 use Rattle.theory.specs.Graph.{Graph, joined, is_table, table_count, size, no_joins}
 use Rattle.theory.specs.Build.{LegalBuild}
 use Rattle.theory.specs.declared.step.Step.{Step}

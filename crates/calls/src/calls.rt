@@ -141,7 +141,7 @@ fn graph_written(rt: HostRuntime) -> Result<(), Fail> {
     assert_eq!(rt; write_graph(&graph, &mut out), Ok(119));
     assert_eq!(rt;
         &out[0..119],
-        b"G    5    6     \nJ         0    1\nJ         0    4\nJ         1    2\nJ         1    3\nJ         2    3\nJ         3    4\n"
+        b"G    5    6     \nJ         0    1\nJ         0    4\nJ         1    2\nJ         1    3\nJ         2    3\nJ         3    4\n".as_slice()
     );
     assert_eq!(rt; out[119], 7);
     Ok(())

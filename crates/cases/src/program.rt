@@ -368,12 +368,12 @@ fn largest_list(rt: HostRuntime) {
     let mut steps = [Step::Edge { v: 0, w: 0 }; 2013];
     assert_eq!(rt; largest(&rt, &mut text), 34255);
     assert_eq!(rt; replay_text(&mut text, 34255, &mut steps), 34289);
-    assert_eq!(rt; &text[0..17], b"G   64 2016     \n");
+    assert_eq!(rt; &text[0..17], b"G   64 2016     \n".as_slice());
     let mut at = 17;
     for v in 0..64usize {
         for w in v + 1..64 {
             assert!(rt; at <= 36448);
-            assert_eq!(rt; &text[at..at + 17], &pair(74, v, w));
+            assert_eq!(rt; &text[at..at + 17], pair(74, v, w).as_slice());
             at += 17;
         }
     }
@@ -388,5 +388,5 @@ fn more_than_largest(rt: HostRuntime) {
     let at = largest(&rt, &mut text);
     let _ = lay(&rt, &mut text, at, &pair(69, 0, 1));
     assert_eq!(rt; replay_text(&mut text, 36465, &mut steps), 17);
-    assert_eq!(rt; &text[0..17], b"X   16    134255\n");
+    assert_eq!(rt; &text[0..17], b"X   16    134255\n".as_slice());
 }

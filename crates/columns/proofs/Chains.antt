@@ -1,8 +1,6 @@
 -- Fields read place after place are the fields of the definitions.
-use Rattle.std.proofs.Common.{◌≡◌, ℕ, suc, ◌+◌, ◌-◌, ◌*◌, Bool, true, false, cond, not, ◌&&◌, ◌||◌, eqb, List, ℤ, Ok, Err, Option, Result, sym, refl, ap, ◌∙◌, arith}
-use mathlib.Core.Path.{fun_ext}
-use Rattle.lines.specs.Read.{then, byte, is_digit, digit_may, blank_may, number_from, number_at, count_from, count_at, blank_from, unused_at, or_number, fields_at, signed}
-use Rattle.lines.specs.declared.line.Fields.{Fields}
+use Rattle.std.proofs.Common.{◌≡◌, ℕ, suc, ◌+◌, ◌-◌, ◌*◌, Bool, true, false, cond, not, ◌&&◌, ◌||◌, eqb, List, ℤ, Ok, Err, Result, sym, refl, ap, ◌∙◌, arith}
+use Rattle.lines.specs.Read.{then, byte, is_digit, digit_may, blank_may, number_from, number_at, count_from, count_at, blank_from, unused_at, or_number, fields_at}
 use Rattle.lines.specs.declared.line.Fields.TheVariants.{Counted}
 use Rattle.lines.specs.declared.line.Layout.TheVariants as layouts
 use Rattle.columns.specs.Place.{place_at, places_at, mark_at, first_marks_at, last_marks_at, marks_at, count_of, blank_at, blanks_at, three_at, last_two_at, first_two_at, counted_at, single_at}

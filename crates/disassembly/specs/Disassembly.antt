@@ -20,7 +20,7 @@
 --   corners l               the triangle of the first three tables of l
 --   Given                   a build list: a triangle and steps
 --   given U J r             the build list of the tables U with the joins J, searched from r
-use Rattle.std.specs.Prelude.{◌≡◌, ℕ, zero, suc, ◌+◌, ◌<◌, ◌≤◌, Bool, true, false, cond, not, ◌&&◌, List, [], ◌∷◌, ◌++◌, length, ◌==◌, nat_lt, slice_index}
+use Rattle.std.specs.Prelude.{◌≡◌, ℕ, zero, suc, ◌+◌, ◌<◌, ◌≤◌, Bool, true, cond, not, ◌&&◌, List, [], ◌∷◌, ◌++◌, length, ◌==◌, nat_lt, slice_index}
 use Rattle.theory.specs.Build.{Part, Ascending, triangle, with_join, without_join}
 use Rattle.theory.specs.declared.step.Step.{Step}
 use Rattle.theory.specs.declared.step.Step.TheVariants.{Edge, Node}

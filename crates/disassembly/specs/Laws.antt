@@ -8,9 +8,9 @@
 --   Stands                   the list given stands in the relation, where the graph is fit
 --   OnlyList                no other list stands in it
 --   GivenBuilds             the list given is a legal build
-use Rattle.std.specs.Prelude.{◌≡◌, ℕ, ◌≤◌, Bool, true, false, ◌↔◌, List}
+use Rattle.std.specs.Prelude.{◌≡◌, ℕ, ◌≤◌, Bool, true, ◌↔◌, List}
 use Rattle.theory.specs.Graph.{count}
-use Rattle.theory.specs.Build.{Part, Ascending, triangle, Builds}
+use Rattle.theory.specs.Build.{Ascending, triangle, Builds}
 use Rattle.theory.specs.declared.step.Step.{Step}
 use Rattle.theory.specs.declared.step.Triangle.{Triangle}
 use Rattle.disassembly.specs.Walks.{Reaches, Connected, Articulation, SimpleOn}

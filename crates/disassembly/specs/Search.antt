@@ -12,7 +12,7 @@
 --   moved U J p          the place after one more move: on to the lowest undiscovered neighbour, or back
 --   moves k U J p        the place after k moves
 --   searched U J r       the place at the end of the search from r: each of 64 tables is discovered and left at most once
-use Rattle.std.specs.Prelude.{◌≡◌, ℕ, zero, suc, ◌+◌, ◌<◌, Bool, true, false, cond, not, ◌&&◌, ◌||◌, List, [], ◌∷◌, length, Some, None, Option, ◌==◌}
+use Rattle.std.specs.Prelude.{◌≡◌, ℕ, zero, suc, ◌+◌, Bool, false, cond, not, ◌&&◌, ◌||◌, List, [], ◌∷◌, length, Some, None, Option, ◌==◌}
 use Rattle.theory.specs.Graph.{Lowest}
 
 abbrev pub has : List ℕ → ℕ → Bool

@@ -3,7 +3,7 @@
 --   join_answer m capacity a b   1 no table, 2 the same table, 3 joined already, 5 full, or accepted
 --   unjoin_answer m a b          1 no table, 2 the same table, 4 not joined, or accepted
 --   after r changed same         the meaning after an edit that answers r: a refusal changes nothing
-use Rattle.std.specs.Prelude.{ℕ, Bool, not, List, [], ◌∷◌, Ok, Err, Result, ◌==◌, nat_le}
+use Rattle.std.specs.Prelude.{ℕ, not, [], ◌∷◌, Ok, Err, Result, ◌==◌, nat_le}
 use Rattle.theory.specs.Graph.{Graph, joined, is_table, size}
 use Rattle.graph.specs.First.{refused_first}
 use Rattle.graph.specs.declared.fault.StoreFault.{StoreFault}

@@ -1,6 +1,5 @@
 -- Two fit graphs that agree on every pair of tables are the same graph: every table has a join, so the pairs tell the tables, too.
-use Rattle.std.proofs.Common.{◌≡◌, ℕ, ◌<◌, ◌≤◌, Bool, true, false, ltb, ◌⊎◌, ◌↔◌, sym, refl, ap, ◌∙◌, inl, inr, ⊎_elim, arith}
-use mathlib.Core.Path.{fun_ext}
+use Rattle.std.proofs.Common.{◌≡◌, ℕ, ◌<◌, ◌≤◌, true, ◌↔◌, sym, refl, ap, ◌∙◌, ⊎_elim, arith}
 use Rattle.std.proofs.lemmas.Bool.{cases_eq, cases_lt, lt-ltb}
 use Rattle.theory.specs.Graph.{Graph, Simple, joined, is_table, table_count}
 use Rattle.disassembly.specs.Walks.{Walk, here, on, Leads}

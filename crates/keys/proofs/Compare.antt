@@ -1,11 +1,9 @@
 -- Two lists given are compared: they are equal exactly when the graphs agree.
-use Rattle.std.proofs.Common.{◌≡◌, ℕ, ◌≤◌, Bool, true, ◌⊎◌, ◌↔◌, List, length, take, Ok, Err, Result, sym, refl, ap, ◌∙◌, subst, inl, inr, ⊎_elim, arith, length-take}
-use Rattle.theory.specs.Graph.{Graph, Simple, joined, is_table}
+use Rattle.std.proofs.Common.{◌≡◌, ℕ, ◌≤◌, Bool, true, ◌↔◌, List, length, take, Ok, Err, Result, sym, refl, ap, ◌∙◌, subst, arith, length-take}
+use Rattle.theory.specs.Graph.{Graph, Simple}
 use Rattle.theory.specs.declared.step.Step.{Step}
-use Rattle.theory.specs.declared.step.Triangle.{Triangle}
-use Rattle.disassembly.specs.Disassembly.{Given}
 use Rattle.refusals.specs.declared.build.BuildFault.{BuildFault}
-use Rattle.assembly.specs.Build.{list_of, build_judged, built_of, built_after, build_answer, records_after}
+use Rattle.assembly.specs.Build.{list_of, build_judged, built_after, build_answer, records_after}
 use Rattle.assembly.specs.declared.build.Built.{Built}
 use Rattle.assembly.proofs.Laws.{There, there, legal_given}
 use Rattle.keys.specs.Key.{from_first, from_second, ComparedBy, Compared, second_after, OneKey}

@@ -5,7 +5,7 @@
 --                         byte 0, which no line has
 --   LineRead text at r   the answer r to reading the line at `at`: the line whose text stands there, or the place of the
 --                         first byte that no line begun so can have, which is the text's end where the line is cut off
-use Rattle.std.specs.Prelude.{◌≡◌, ℕ, ◌+◌, ◌<◌, ◌≤◌, List, length, Ok, Err, Result, slice_index}
+use Rattle.std.specs.Prelude.{◌≡◌, ℕ, ◌+◌, ◌<◌, List, Ok, Err, Result, slice_index}
 use Rattle.lines.specs.Text.{line_text, Written}
 use Rattle.lines.specs.declared.line.Line.{Line}
 

@@ -1,5 +1,5 @@
 -- The record in a slot, as indexing reads it.
-use Rattle.std.proofs.Common.{◌≡◌, ℕ, zero, suc, ◌<◌, List, [], ◌∷◌, length, get_or, Some, None, Option, refl, arith}
+use Rattle.std.proofs.Common.{◌≡◌, ℕ, zero, suc, ◌<◌, List, [], ◌∷◌, length, get_or, Some, refl, arith}
 use Rattle.memory.specs.Stack.{record_at}
 
 pub record_there : {T : Type 0} (l : List T) (k : ℕ) (d : T) → k < length l → Some (get_or l k d) ≡ record_at l k

@@ -3,14 +3,13 @@
 --   given_notes                 the notes
 --   given_steps, given_length   the list, which is as long
 --   given_triangle              the triangle
-use Rattle.std.proofs.Common.{◌≡◌, ℕ, ◌-◌, ◌≤◌, Bool, List, length, take, sym, refl, ap, ◌∙◌, arith}
+use Rattle.std.proofs.Common.{◌≡◌, ℕ, ◌-◌, ◌≤◌, Bool, List, length, take, sym, ap, ◌∙◌}
 use mathlib.Core.Path.{fun_ext}
 use Rattle.std.proofs.lemmas.List.{length-take-le}
 use Rattle.theory.specs.Build.{Part}
-use Rattle.theory.specs.declared.step.Step.{Step}
 use Rattle.bits.specs.Rows.{bit}
 use Rattle.disassembly.specs.Search.{Place, discovery}
-use Rattle.disassembly.specs.Disassembly.{reversed, part_of, passing, corners, away_of, remaining, all_notes, given_at}
+use Rattle.disassembly.specs.Disassembly.{reversed, part_of, away_of, remaining, all_notes, given_at}
 use Rattle.disassembly.proofs.Undo.{part_path}
 use Rattle.notes.specs.Notes.{entry, joins_in, part_in, corners_of}
 use Rattle.notes.proofs.Reversed.{reversed_length, away_taken}

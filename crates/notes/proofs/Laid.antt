@@ -3,7 +3,7 @@
 --   notes_laid   the notes laid from the first record on
 --   list_is      those turned round
 --   corners_in   the triangle of a mask
-use Rattle.std.proofs.Common.{◌≡◌, ℕ, zero, suc, ◌+◌, ◌-◌, ◌≤◌, Bool, List, [], ◌∷◌, ◌++◌, length, take, drop, sym, refl, ap, ◌∙◌, arith}
+use Rattle.std.proofs.Common.{◌≡◌, ℕ, ◌+◌, ◌≤◌, Bool, List, ◌++◌, length, take, drop, ap, ◌∙◌, arith}
 use Rattle.theory.specs.declared.step.Step.{Step}
 use Rattle.bits.specs.Rows.{bit}
 use Rattle.disassembly.specs.Disassembly.{reversed, passing, corners}

@@ -1,7 +1,7 @@
 -- The lowest bit that is set goes out of a number where it is masked with the number before it.
 --
 --   lowest_cleared   as if it were taken out by itself
-use Rattle.std.proofs.Common.{◌≡◌, ℕ, zero, suc, ◌+◌, ◌-◌, ◌*◌, ◌/◌, ◌%◌, ◌^◌, ◌<◌, ◌≤◌, min, sym, refl, ap, ◌∙◌, pow-suc, arith}
+use Rattle.std.proofs.Common.{◌≡◌, ℕ, zero, suc, ◌+◌, ◌-◌, ◌*◌, ◌/◌, ◌%◌, ◌^◌, ◌<◌, min, sym, refl, ap, ◌∙◌, pow-suc, arith}
 use lib.Bits.{bit_and, bit_xor, differ, and_step, xor_step, and_self, xor_zero_r}
 use lib.Count.{count_trailing_zeros, under}
 

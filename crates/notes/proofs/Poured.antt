@@ -5,7 +5,7 @@
 --   Goes_on                        laying what is left gives what laying all gives
 --   starts, goes_as, goes_on, room, ends    before the first, what is left said in another way, from one piece to the next, room for the next piece, after the last
 --   room_first, room_second, room_last, all_laid, all_high    three pieces
-use Rattle.std.proofs.Common.{◌≡◌, ℕ, zero, suc, ◌+◌, ◌<◌, ◌≤◌, List, [], ◌∷◌, ◌++◌, length, take, drop, set, sym, refl, ap, ◌∙◌, subst, arith, length-set}
+use Rattle.std.proofs.Common.{◌≡◌, ℕ, suc, ◌+◌, ◌≤◌, List, [], ◌∷◌, ◌++◌, length, take, drop, set, sym, refl, ap, ◌∙◌, subst, arith, length-set}
 use Rattle.std.proofs.lemmas.List.{append-nil, append_assoc, length-append, take_more_set, drop-set-lt}
 use Rattle.notes.specs.Notes.{poured}
 

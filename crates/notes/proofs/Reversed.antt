@@ -5,8 +5,8 @@
 --                    as long as before; without the first records it is the reverse without the last ones
 --   turned           the first records turned round, and the later ones
 --   away_taken       the first tables left, all but three, are those to take away
-use Rattle.std.proofs.Common.{◌≡◌, ℕ, zero, suc, ◌+◌, ◌-◌, ◌<◌, ◌≤◌, List, [], ◌∷◌, ◌++◌, reverse, length, take, drop, sym, refl, ap, ◌∙◌, arith}
-use mathlib.Core.List.{reverse_aux, reverse_aux-eq}
+use Rattle.std.proofs.Common.{◌≡◌, ℕ, zero, suc, ◌-◌, ◌≤◌, List, [], ◌∷◌, ◌++◌, reverse, length, take, drop, sym, refl, ap, ◌∙◌, arith}
+use mathlib.Core.List.{reverse_aux-eq}
 use Rattle.std.proofs.lemmas.List.{length-append, take_all, take-take, take-append-le}
 use Rattle.disassembly.specs.Search.{Place}
 use Rattle.disassembly.specs.Disassembly.{reversed, past, away_of}

@@ -5,7 +5,7 @@
 --   notes_first              the lowest table of a mask is the next to be noted
 --   others_mask, others_held, others_of   the neighbours of u other than f and a, as a mask
 --   all_out                  without the joins with those, with f, with a, and u's own row, all joins of u are out
-use Rattle.std.proofs.Common.{◌≡◌, ℕ, ◌+◌, ◌-◌, ◌*◌, ◌%◌, ◌^◌, ◌<◌, ◌≤◌, Bool, true, false, not, ◌&&◌, eqb, List, [], ◌∷◌, ◌++◌, length, get_or, set, sym, refl, ap, ◌∙◌, ⊎_elim, arith, length-set, get_or-set_other, get_or-set_same}
+use Rattle.std.proofs.Common.{◌≡◌, ℕ, ◌-◌, ◌<◌, Bool, true, false, not, ◌&&◌, eqb, List, [], ◌∷◌, ◌++◌, length, get_or, set, sym, refl, ap, ◌∙◌, ⊎_elim, arith, length-set, get_or-set_other, get_or-set_same}
 use mathlib.Core.Path.{fun_ext}
 use lib.Bits.{bit_and, bit_xor}
 use lib.Count.{count_trailing_zeros}
@@ -15,7 +15,7 @@ use Rattle.std.proofs.lemmas.Bool.Decides.{nat_tests}
 use Rattle.bits.specs.Rows.{bit}
 use Rattle.bits.proofs.Bit.{zero_bit, xor_bit}
 use Rattle.disassembly.specs.Walks.{without}
-use Rattle.disassembly.specs.Disassembly.{part_of, other, passing, edges}
+use Rattle.disassembly.specs.Disassembly.{passing, edges}
 use Rattle.notes.specs.Notes.{joins_in, Symmetric, tables_of, others}
 use Rattle.notes.proofs.Masks.{shl, lowest_below, lowest_set, lowest_out, lowest_taken}
 

@@ -3,7 +3,7 @@
 --   refusal_line r l p          X: refusal, layer, place
 --   refusal_answer r l p b      17 a number over 99,999; 9 fewer than 17 bytes lent; or the bytes written
 --   refusal_written r l p out   the bytes lent, afterwards
-use Rattle.std.specs.Prelude.{ℕ, Bool, cond, ◌||◌, List, length, Ok, Err, Result}
+use Rattle.std.specs.Prelude.{ℕ, cond, ◌||◌, List, length, Err, Result}
 use Rattle.lines.specs.Text.{line_text}
 use Rattle.lines.specs.declared.line.Line.{Line}
 use Rattle.lines.specs.declared.line.Fields.TheVariants.{Three}

@@ -8,7 +8,7 @@ use Rattle.std.proofs.Common.{◌≡◌, ℕ, ◌+◌, ◌*◌, ◌≤◌, Bool,
 use Rattle.std.proofs.lemmas.List.{take_all, take_at}
 use Rattle.std.proofs.lemmas.Bool.{eqb-true, eq-eqb}
 use Rattle.std.proofs.lemmas.Bool.Decides.{nat_tests}
-use Rattle.construction.specs.Replay.{Played, replayed}
+use Rattle.construction.specs.Replay.{replayed}
 use Rattle.refusals.specs.declared.fault.ReplayFault.{ReplayFault}
 use Rattle.construction.proofs.Laws.{accepted_exactly, accepted_with_room, accepted_size, replayed_tables}
 use Rattle.lines.specs.Read.{line_at}

@@ -5,10 +5,10 @@
 --   list_off, end_off      a text that is refused: the list, or what follows it
 --   played_as, part_near   the replay of the records that the list fills
 --   play_last              a text that is accepted, and the replay of its list
-use Rattle.std.proofs.Common.{◌≡◌, ℕ, ◌+◌, ◌-◌, ◌≤◌, List, length, take, IfErr, Ok, Err, Result, sym, refl, ap, ◌∙◌, subst, arith, length-take}
+use Rattle.std.proofs.Common.{◌≡◌, ℕ, ◌+◌, ◌-◌, ◌≤◌, List, length, take, IfErr, Ok, Err, Result, sym, ap, ◌∙◌, arith, length-take}
 use Rattle.std.proofs.lemmas.Bool.Decides.{nat_tests}
 use Rattle.bits.specs.declared.table.BitTable.{BitTable}
-use Rattle.construction.specs.Replay.{Played, replayed}
+use Rattle.construction.specs.Replay.{replayed}
 use Rattle.refusals.specs.declared.fault.ReplayFault.{ReplayFault}
 use Rattle.texts.specs.ListRead.{list_read, end_at}
 use Rattle.texts.specs.declared.fault.TextFault.{TextFault}

@@ -3,13 +3,12 @@
 --   shown_within   what is shown fits
 --   done_built     a text that is accepted
 --   done_refused   a text that is refused
-use Rattle.std.proofs.Common.{◌≡◌, ℕ, ◌+◌, ◌-◌, ◌*◌, ◌≤◌, min, Bool, true, false, cond, ltb, ◌⊎◌, List, [], ◌++◌, length, take, drop, Ok, Err, Result, sym, refl, ap, ◌∙◌, subst, inl, inr, ⊎_elim, arith, length-take}
+use Rattle.std.proofs.Common.{◌≡◌, ℕ, ◌+◌, ◌≤◌, min, Bool, true, false, cond, ltb, List, [], length, take, drop, Ok, Err, Result, sym, refl, ap, ◌∙◌, subst, inl, inr, ⊎_elim, arith, length-take}
 use Rattle.std.proofs.lemmas.List.{take_at}
 use Rattle.std.proofs.lemmas.Bool.{ltb-false}
 use Rattle.writer.specs.Laid.{laid}
-use Rattle.lines.specs.Text.{line_text}
 use Rattle.lines.proofs.Bytes.{line_length}
-use Rattle.prints.specs.GraphText.{text_of_graph, graph_length}
+use Rattle.prints.specs.GraphText.{graph_length}
 use Rattle.prints.specs.Refusal.{refusal_line}
 use Rattle.texts.specs.ListRead.{list_read}
 use Rattle.texts.specs.declared.fault.TextFault.TheVariants.{TooFew}
@@ -19,7 +18,7 @@ use Rattle.theory.specs.declared.step.Step.{Step}
 use Rattle.theory.proofs.Sizes.{size_most}
 use Rattle.programs.specs.Done.{Done, Room}
 use Rattle.outcomes.specs.Fault.{fault_number, fault_layer, fault_place}
-use Rattle.programs.specs.Replay.{printed, roomed, shown, looked_at, replay_told, replay_prints}
+use Rattle.programs.specs.Replay.{printed, roomed, shown, looked_at, replay_told}
 use Rattle.programs.specs.ReplayLaw.{Replays}
 use Rattle.outcomes.specs.declared.fault.ProgramFault.{ProgramFault}
 use Rattle.outcomes.specs.declared.fault.ProgramFault.TheVariants.{Text}

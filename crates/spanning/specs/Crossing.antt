@@ -4,7 +4,7 @@
 --   on_path t r a b      the same as a test, by a search
 --   cross m t r a b      a and b are joined, the join is not marked, and neither lies on the marked path from r to the other
 --   cross_count m t r    the number of cross joins
-use Rattle.std.specs.Prelude.{◌≡◌, ℕ, Bool, true, not, ◌&&◌, ◌||◌, ◌⊎◌, ◌==◌}
+use Rattle.std.specs.Prelude.{◌≡◌, ℕ, Bool, not, ◌&&◌, ◌||◌, ◌⊎◌, ◌==◌}
 use Rattle.theory.specs.Graph.{Graph, joined, is_table, table_count, pairs}
 use Rattle.disassembly.specs.Reach.{reached}
 use Rattle.disassembly.specs.Walks.{Reaches, without}

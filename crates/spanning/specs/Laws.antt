@@ -10,14 +10,14 @@
 --                        under it, and falls by its own unmarked joins with tables not under it
 --   ClosesNothing       a mark between two tables that the marks do not connect closes no ring
 --   EnoughMarks         marks without a ring, one fewer than tables, connect all of them
-use Rattle.std.specs.Prelude.{◌≡◌, ℕ, ◌+◌, ◌<◌, Bool, true, false, not, ◌&&◌, ◌↔◌}
+use Rattle.std.specs.Prelude.{◌≡◌, ℕ, ◌+◌, ◌<◌, Bool, true, not, ◌&&◌, ◌↔◌}
 use Rattle.theory.specs.Build.{without_join}
-use Rattle.theory.specs.Graph.{Graph, Simple, joined, joining, is_table, table_count, size, count, pairs, no_joins}
+use Rattle.theory.specs.Graph.{Graph, Simple, joined, joining, is_table, table_count, size, count, pairs}
 use Rattle.disassembly.specs.Search.{searched}
 use Rattle.disassembly.specs.Tree.{Over}
 use Rattle.disassembly.specs.Walks.{Reaches, Connected}
 use Rattle.spanning.specs.Spanning.{Spanning}
-use Rattle.spanning.specs.Crossing.{OnPath, on_path, cross, cross_count}
+use Rattle.spanning.specs.Crossing.{OnPath, on_path, cross_count}
 use Rattle.spanning.specs.Driving.{Drives}
 
 pub record MarksOf (m t : Graph) : Type 0 where

@@ -1,5 +1,5 @@
 -- A refusal passed on by `?`: what it leaves open.
-use Rattle.std.proofs.Common.{◌≡◌, ℕ, IfOk, IfErr, Ok, Err, Result, sym, ◌∙◌, subst, arith}
+use Rattle.std.proofs.Common.{◌≡◌, ℕ, IfOk, IfErr, Ok, Err, Result, sym, subst, arith}
 
 -- nothing is promised of a value that is not there
 pub made_refused : {X E : Type 0} (r : Result X E) (x : E) (P : X → Type 0) → r ≡ Err x → IfOk r P

@@ -1,5 +1,5 @@
 -- The step lines of a list text, read one after another: one more, one that is refused, and the end.
-use Rattle.std.proofs.Common.{◌≡◌, ℕ, zero, suc, ◌+◌, ◌-◌, ◌*◌, ◌<◌, ◌≤◌, List, set, Ok, Err, Result, sym, refl, ap, ◌∙◌, arith}
+use Rattle.std.proofs.Common.{◌≡◌, ℕ, suc, ◌+◌, ◌-◌, ◌*◌, ◌<◌, ◌≤◌, List, set, Ok, Err, sym, ap, ◌∙◌, arith}
 use Rattle.theory.specs.declared.step.Step.{Step}
 use Rattle.texts.specs.ListRead.{step_at, StepsTold, onward, steps_read}
 use Rattle.texts.specs.declared.fault.TextFault.{TextFault}

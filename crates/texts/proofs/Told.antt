@@ -1,10 +1,9 @@
 -- A list text read line by line: where it ends at a refusal, and where it goes on to the steps.
-use Rattle.std.proofs.Common.{◌≡◌, ℕ, ◌+◌, ◌*◌, List, length, Ok, Err, Result, sym, refl, ap, ◌∙◌, subst}
+use Rattle.std.proofs.Common.{◌≡◌, ℕ, ◌+◌, ◌*◌, List, length, Ok, Err, Result, sym, ap, ◌∙◌, subst}
 use Rattle.theory.specs.declared.step.Step.{Step}
 use Rattle.theory.specs.declared.step.Triangle.{Triangle}
-use Rattle.texts.specs.Fault.{next}
 use Rattle.texts.specs.ListLaw.{SameText, RefusedText}
-use Rattle.texts.specs.ListRead.{head_at, triangle_at, steps_read, StepsTold, ListTold, heading, list_after, list_with, list_headed, list_read}
+use Rattle.texts.specs.ListRead.{head_at, triangle_at, steps_read, ListTold, list_after, list_with, list_headed, list_read}
 use Rattle.texts.specs.declared.fault.TextFault.{TextFault}
 use Rattle.texts.specs.declared.list.Head.{Head}
 use Rattle.texts.specs.declared.list.Heading.{Heading}

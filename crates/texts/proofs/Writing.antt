@@ -5,7 +5,7 @@
 --   joined_length   the text of k lines has 17 * k bytes
 --   lines_more      one more line, after those of the first i of a list
 --   list_laid       heading, triangle and steps, laid one after another, are the whole text of a list
-use Rattle.std.proofs.Common.{◌≡◌, ℕ, suc, ◌+◌, ◌*◌, ◌<◌, ◌≤◌, Bool, true, false, cond, leb, List, [], ◌∷◌, ◌++◌, length, get_or, take, drop, Ok, Err, Result, sym, refl, ap, ◌∙◌, arith, length-append}
+use Rattle.std.proofs.Common.{◌≡◌, ℕ, ◌+◌, ◌*◌, ◌<◌, ◌≤◌, true, false, cond, List, [], ◌∷◌, ◌++◌, length, get_or, take, drop, Ok, Err, Result, sym, refl, ap, ◌∙◌, arith, length-append}
 use Rattle.std.specs.List.{flat_map}
 use Rattle.std.proofs.lemmas.List.{at_drop_more, at_drop_all, take_more, flat_map_more, length-take-le}
 use Rattle.std.proofs.lemmas.Bool.{le-leb}
@@ -16,7 +16,7 @@ use Rattle.writer.specs.Laid.{laid, laid_line}
 use Rattle.writer.proofs.Lays.{laid_two}
 use Rattle.theory.specs.declared.step.Step.{Step}
 use Rattle.theory.specs.declared.step.Triangle.{Triangle}
-use Rattle.texts.specs.ListText.{head_line, triangle_line, step_line, step_text, list_text}
+use Rattle.texts.specs.ListText.{head_line, triangle_line, step_text, list_text}
 use Rattle.texts.specs.ListWrite.{step_over, steps_over, list_length}
 use Rattle.texts.proofs.Laying.{laid_length}
 use Rattle.texts.specs.declared.fault.TextFault.{TextFault}

@@ -6,7 +6,7 @@
 --   steps_read text at k i l    k step lines, laid into the records l from the i-th on
 --   list_read text at l         the whole list: what is told, and the records after
 --   end_at text at              nothing may follow: 15 where what follows is not in form, else 16
-use Rattle.std.specs.Prelude.{ℕ, zero, suc, ◌+◌, ◌-◌, ◌*◌, Bool, cond, not, ◌||◌, List, [], ◌∷◌, length, Ok, Err, Result, ◌==◌, nat_lt, slice_set}
+use Rattle.std.specs.Prelude.{ℕ, zero, suc, ◌+◌, ◌-◌, ◌*◌, Bool, cond, not, ◌||◌, List, length, Ok, Err, Result, ◌==◌, nat_lt, slice_set}
 use Rattle.lines.specs.Read.{line_at}
 use Rattle.lines.specs.declared.line.Fields.{Fields}
 use Rattle.lines.specs.declared.line.Fields.TheVariants.{Three, LastTwo, FirstTwo, Counted, Single}

@@ -3,7 +3,7 @@
 --   head_line n k, triangle_line t, step_line s   the lines of n tables and k steps, of a triangle, of a step
 --   list_text n t l                               the whole text
 --   Listable n t l                                the list can be written: 3 to 64 tables, at most 2,016 joins, and no number over 99,999
-use Rattle.std.specs.Prelude.{◌≡◌, ℕ, ◌+◌, ◌≤◌, List, [], ◌∷◌, ◌++◌, length, get_or}
+use Rattle.std.specs.Prelude.{ℕ, ◌+◌, ◌≤◌, List, [], ◌∷◌, ◌++◌, length}
 use Rattle.std.specs.List.{flat_map}
 use Rattle.lines.specs.Text.{line_text, Fits}
 use Rattle.lines.specs.declared.line.Line.{Line}

@@ -5,7 +5,7 @@
 --   list_length l              the bytes of a list's text
 --   list_write_answer n t l b  17 with the line's offset, 9 with the bytes needed where b are lent, or the bytes written
 --   list_written n t l out     the bytes lent, afterwards
-use Rattle.std.specs.Prelude.{ℕ, ◌+◌, ◌*◌, Bool, true, false, cond, not, ◌||◌, List, [], ◌∷◌, length, Some, None, Ok, Err, Option, Result, nat_lt}
+use Rattle.std.specs.Prelude.{ℕ, ◌+◌, ◌*◌, Bool, cond, ◌||◌, List, [], ◌∷◌, length, Ok, Err, Result, nat_lt}
 use Rattle.writer.specs.Laid.{laid}
 use Rattle.theory.specs.declared.step.Step.{Step}
 use Rattle.theory.specs.declared.step.Step.TheVariants.{Edge, Node}

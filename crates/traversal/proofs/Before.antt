@@ -2,7 +2,7 @@
 --
 --   before_in, before_less, less_before   before a table, in the list, and by discovery numbers
 --   stacked_in, stacked_part              the first k entries as a part of the first n
-use Rattle.std.proofs.Common.{◌≡◌, ℕ, zero, suc, ◌<◌, ◌≤◌, true, false, eqb, ◌⊎◌, List, [], ◌∷◌, length, get_or, sym, subst, ⊎_elim, arith}
+use Rattle.std.proofs.Common.{◌≡◌, ℕ, zero, suc, ◌<◌, ◌≤◌, true, false, eqb, List, [], ◌∷◌, length, get_or, sym, subst, ⊎_elim, arith}
 use Rattle.std.proofs.lemmas.Bool.{cases_eq, false≢true, both_ways, eq-eqb, ne_eqb, cond-true, cond-false}
 use Rattle.disassembly.specs.Search.{has, discovery}
 use Rattle.disassembly.proofs.Members.{has_cases, has_more, Distinct}

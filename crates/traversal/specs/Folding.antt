@@ -6,7 +6,7 @@
 --   folded s r w k           the low points w after the k-th table left handed on what it touches to its parent
 --   Whole U J r s            the state s is that of the finished search from r, which discovered all tables of U
 --   SomeWhole rows r s      the same of some set of tables, with the joins that the rows keep
-use Rattle.std.specs.Prelude.{◌≡◌, ℕ, Bool, true, cond, not, List, set, ◌==◌, bit_and, bit_or, slice_index, slice_set}
+use Rattle.std.specs.Prelude.{◌≡◌, ℕ, Bool, true, cond, not, List, ◌==◌, bit_and, bit_or, slice_index, slice_set}
 use Rattle.disassembly.specs.Search.{has, searched}
 use Rattle.disassembly.specs.Walks.{SimpleOn}
 use Rattle.traversal.specs.Standing.{row_joins, one_bit, Stands}

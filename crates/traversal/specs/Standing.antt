@@ -18,7 +18,7 @@
 --   Able s k slots         the state and the stack stand for some place
 --   After going U p s k slots
 --                          a move that answers `going` came to place p: the search goes on there, or has ended
-use Rattle.std.specs.Prelude.{◌≡◌, ℕ, zero, suc, ◌+◌, ◌*◌, ◌%◌, ◌^◌, ◌<◌, ◌≤◌, Bool, true, false, cond, not, ◌&&◌, List, [], ◌∷◌, map, length, set, replicate, ◌==◌, bit_or, bit_xor, slice_index, slice_set}
+use Rattle.std.specs.Prelude.{◌≡◌, ℕ, zero, suc, ◌+◌, ◌*◌, ◌%◌, ◌^◌, ◌<◌, ◌≤◌, Bool, true, false, cond, not, ◌&&◌, List, [], ◌∷◌, map, length, replicate, ◌==◌, bit_or, bit_xor, slice_index, slice_set}
 use Rattle.theory.specs.Graph.{count}
 use Rattle.disassembly.specs.Search.{has, discovery, Place}
 use Rattle.bits.specs.Rows.{bit}

@@ -1,10 +1,9 @@
 -- Bytes laid one piece after another are laid at once.
-use mathlib.Core.Path.{◌≡◌, refl, sym, ap, ◌∙◌}
-use mathlib.Core.List.{List, [], ◌∷◌, ◌++◌, append_assoc}
-use Prim.Native.Nat.{ℕ, suc, ◌+◌, ◌≤◌}
+use mathlib.Core.Path.{◌≡◌, ap, ◌∙◌}
+use mathlib.Core.List.{List, [], ◌∷◌, ◌++◌}
+use Prim.Native.Nat.{ℕ, ◌+◌}
 use native.Mathlib.Omega.{arith}
 use lib.ListN.{length, set, length-append}
-use Rattle.lines.specs.Text.{fields_text, line_text}
 use Rattle.writer.specs.Laid.{laid}
 
 pub laid_two : (xs : List ℕ) (at i : ℕ) (a b : List ℕ) → i ≡ at + length a → laid (laid xs at a) i b ≡ laid xs at (a ++ b)

@@ -1,5 +1,5 @@
 -- A request: refused, or the list laid.
-use Rattle.std.proofs.Common.{◌≡◌, ◌-◌, length, Ok, sym, refl, ap, ◌∙◌}
+use Rattle.std.proofs.Common.{◌-◌, length, Ok, sym, refl}
 use Rattle.std.proofs.lemmas.Result.{err_from_is_err_and}
 use Rattle.bits.specs.Rows.{rows_graph}
 use Rattle.bits.proofs.Edits.{simple_of}

@@ -1,5 +1,5 @@
 -- The list of a surveyed graph: what the survey holds tells where the search ended, and the rows are the graph's joins.
-use Rattle.std.proofs.Common.{◌≡◌, ℕ, ◌-◌, ◌≤◌, ltb, List, ◌++◌, length, take, drop, sym, refl, ap, ◌∙◌, subst, arith}
+use Rattle.std.proofs.Common.{◌≡◌, ℕ, ◌-◌, ◌≤◌, ltb, ◌++◌, length, take, drop, sym, ap, ◌∙◌, subst, arith}
 use Rattle.theory.specs.Graph.{is_table, joined}
 use Rattle.bits.specs.Rows.{bit, rows_graph}
 use Rattle.disassembly.specs.Search.{searched}

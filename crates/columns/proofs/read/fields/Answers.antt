@@ -1,4 +1,4 @@
-use Rattle.std.proofs.Common.{◌≡◌, sym, ap, ◌∙◌}
+use Rattle.std.proofs.Common.{sym, ap, ◌∙◌}
 use Rattle.lines.specs.Read.{fields_at}
 use Rattle.columns.proofs.Chains.{three_fields, last_two_fields, first_two_fields, counted_fields, single_fields}
 use Rattle.columns.proofs.read.fields.Goals as goal

@@ -1,5 +1,4 @@
-use Rattle.std.proofs.Common.{◌≡◌, length, sym, refl, ap, ◌∙◌}
-use Rattle.assembly.specs.Build.{build_answer}
+use Rattle.std.proofs.Common.{length, sym, ◌∙◌}
 use Rattle.keys.proofs.Compare.{first_ok, second_ok, fits, second_asked, compared, one_key}
 use Rattle.keys.proofs.key.same_key.Goals as goal
 

@@ -1,6 +1,5 @@
-use Rattle.std.proofs.Common.{◌≡◌, ℕ, ◌<◌, ◌≤◌, length, take, sym, refl, ap, ◌∙◌, arith}
+use Rattle.std.proofs.Common.{◌≡◌, ◌<◌, length, take, sym, refl, ◌∙◌, arith}
 use Rattle.std.proofs.lemmas.List.{take_more_same, take_all}
-use Rattle.theory.specs.declared.step.Step.TheVariants.{Edge}
 use Rattle.keys.proofs.key.same_steps.Goals as goal
 
 pub loop-i-preserved : goal.loop-i-preserved

@@ -1,4 +1,4 @@
-use Rattle.std.proofs.Common.{get_or, sym}
+use Rattle.std.proofs.Common.{get_or}
 use Rattle.bits.proofs.Bit.{and_bit}
 use Rattle.notes.proofs.notes.joined.Goals as goal
 

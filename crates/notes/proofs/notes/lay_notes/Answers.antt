@@ -1,4 +1,4 @@
-use Rattle.std.proofs.Common.{◌≡◌, ◌-◌, take, sym, ◌∙◌, arith, rules}
+use Rattle.std.proofs.Common.{◌-◌, take, sym, ◌∙◌, arith, rules}
 use Rattle.disassembly.specs.Disassembly.{all_notes}
 use Rattle.notes.specs.Notes.{entry, part_in}
 use Rattle.notes.proofs.Laid.{notes_laid}

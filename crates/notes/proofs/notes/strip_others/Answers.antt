@@ -1,4 +1,4 @@
-use Rattle.std.proofs.Common.{◌≡◌, ◌-◌, ◌<◌, [], ◌∷◌, ◌++◌, length, get_or, set, sym, refl, ap, ◌∙◌, arith, length-set}
+use Rattle.std.proofs.Common.{◌-◌, [], ◌∷◌, ◌++◌, length, get_or, refl, ap, ◌∙◌, arith, length-set}
 use lib.Bits.{bit_and, bit_xor}
 use lib.Count.{count_trailing_zeros}
 use Rattle.theory.specs.declared.step.Step.{Step}

@@ -1,6 +1,6 @@
-use Rattle.std.proofs.Common.{◌≡◌, ℕ, ◌+◌, ◌-◌, ◌<◌, ◌≤◌, ◌++◌, length, get_or, take, drop, sym, refl, ap, ◌∙◌, arith}
+use Rattle.std.proofs.Common.{◌≡◌, ◌+◌, ◌-◌, ◌<◌, ◌≤◌, ◌++◌, length, get_or, take, drop, sym, refl, ap, ◌∙◌, arith}
 use Rattle.theory.specs.Build.{Part}
-use Rattle.disassembly.specs.Disassembly.{remaining, all_notes, taken}
+use Rattle.disassembly.specs.Disassembly.{all_notes, taken}
 use Rattle.notes.specs.Notes.{entry, joins_in, part_in, notes_in}
 use Rattle.notes.proofs.Poured.{starts, goes_as, goes_on, room, ends}
 use Rattle.notes.proofs.Turns.{symmetric_after, notes_first, notes_on, remaining_on, notes_end, remaining_end}

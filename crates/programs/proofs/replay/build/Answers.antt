@@ -1,16 +1,14 @@
-use Rattle.std.proofs.Common.{◌≡◌, ℕ, ◌+◌, ◌-◌, ◌≤◌, length, take, Ok, Err, Result, sym, refl, ap, ◌∙◌, arith}
+use Rattle.std.proofs.Common.{◌≤◌, length, Ok, Err, Result, sym, ap, ◌∙◌, arith}
 use Rattle.std.proofs.lemmas.Result.{err_from_is_err_and}
 use Rattle.texts.specs.Fault.{text_value}
 use Rattle.texts.specs.ListRead.{list_read}
 use Rattle.refusals.specs.declared.fault.ReplayFault.{ReplayFault}
 use Rattle.texts.proofs.Refusals.{refused_on}
-use Rattle.theory.specs.Graph.{no_joins, clamped}
-use Rattle.construction.specs.Replay.{replayed}
 use Rattle.bits.specs.declared.table.BitTable.{BitTable}
 use Rattle.outcomes.specs.declared.fault.ProgramFault.{ProgramFault}
 use Rattle.outcomes.specs.declared.fault.ProgramFault.TheVariants.{Text, Replay}
 use Rattle.outcomes.specs.Fault.{fault_place, replay_place}
-use Rattle.programs.specs.Replay.{meant, left, replay_last}
+use Rattle.programs.specs.Replay.{meant, replay_last}
 use Rattle.programs.proofs.Told.{list_off, end_off, play_last, carried, played_as, part_near}
 use Rattle.programs.proofs.replay.build.Goals as goal
 

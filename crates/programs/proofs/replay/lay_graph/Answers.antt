@@ -1,8 +1,7 @@
-use Rattle.std.proofs.Common.{◌≡◌, ◌≤◌, length, Ok, Err, sym, ap, ◌∙◌}
+use Rattle.std.proofs.Common.{◌≡◌, length, Ok, Err, sym, ap, ◌∙◌}
 use Rattle.bits.proofs.Edits.{simple_of}
 use Rattle.writer.specs.Laid.{laid}
 use Rattle.programs.specs.Replay.{graph_of, shown}
-use Rattle.outcomes.specs.declared.fault.ProgramFault.TheVariants.{Text}
 use Rattle.programs.proofs.Prints.{graph_count, graph_lies, graph_unfit, graph_kept}
 use Rattle.programs.proofs.replay.lay_graph.Goals as goal
 

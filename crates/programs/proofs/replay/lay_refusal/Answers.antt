@@ -1,4 +1,3 @@
-use Rattle.std.proofs.Common.{◌≡◌}
 use Rattle.programs.proofs.Prints.{refusal_count, refusal_lies}
 use Rattle.programs.proofs.replay.lay_refusal.Goals as goal
 

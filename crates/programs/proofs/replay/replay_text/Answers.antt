@@ -1,4 +1,4 @@
-use Rattle.std.proofs.Common.{◌≡◌, ℕ, ◌-◌, ◌≤◌, min, List, length, take, Ok, Err, Result, sym, refl, ap, ◌∙◌, arith}
+use Rattle.std.proofs.Common.{◌≡◌, ℕ, ◌-◌, ◌≤◌, min, List, length, take, Ok, Err, Result, refl, ap, ◌∙◌, arith}
 use Rattle.bits.proofs.Edits.{simple_of}
 use Rattle.texts.specs.ListRead.{list_read}
 use Rattle.theory.specs.Graph.{Graph}

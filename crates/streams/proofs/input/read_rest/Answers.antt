@@ -1,4 +1,4 @@
-use Rattle.std.proofs.Common.{◌≡◌, ℕ, ◌+◌, ◌-◌, ◌≤◌, Bool, true, false, length, is_err, IfOk, Ok, Err, Result, arith, rules}
+use Rattle.std.proofs.Common.{◌≡◌, ◌-◌, ◌≤◌, true, length, is_err, IfOk, Ok, Err, Result, arith, rules}
 use borrow.Author.Tests.{clash}
 use Rattle.std.proofs.lemmas.Slice.{take-put_mid_below}
 use Rattle.streams.proofs.input.read_rest.Goals as goal

@@ -1,4 +1,4 @@
-use Rattle.std.proofs.Common.{◌≡◌, sym, ◌∙◌}
+use Rattle.std.proofs.Common.{sym}
 use Rattle.theory.specs.declared.step.Step.TheVariants.{Edge}
 use Rattle.texts.specs.ListWrite.{steps_over}
 use Rattle.texts.proofs.Writing.{over_on, over_off, over_end}

@@ -1,4 +1,4 @@
-use Rattle.std.proofs.Common.{◌≡◌, sym, ap, ◌∙◌}
+use Rattle.std.proofs.Common.{sym, ap, ◌∙◌}
 use Rattle.writer.specs.Laid.{laid_line}
 use Rattle.texts.specs.ListText.{step_line}
 use Rattle.texts.proofs.list_write.put_step.Goals as goal
