@@ -3,8 +3,8 @@ use Rattle.theory.specs.Graph.{size, no_joins, clamped}
 use Rattle.theory.proofs.Sizes.{no_joins_size}
 use Rattle.calls.proofs.narrow.Narrow.new.Goals as goal
 
-pub invariant-of-result : goal.invariant-of-result
-invariant-of-result c =
+pub invariant_of-result : goal.invariant_of-result
+invariant_of-result c =
     let none = no_joins_size (clamped c.args.tables) in
     let few : size (no_joins (clamped c.args.tables)) ≤ c.min.result = omega (arith, none) in
-    (subst (λ m. size m ≤ c.min.result) (sym c.new.ensures) few, search rules)
+    record { fits = subst (λ m. size m ≤ c.min.result) (sym c.new.ensures) few; low = search rules }

@@ -6,8 +6,8 @@ use Rattle.calls.proofs.Few.{after_few}
 use Rattle.calls.proofs.narrow.NarrowEditableGraph.join.Goals as goal
 
 -- there were fewer than the limit
-pub invariant-of-self : goal.invariant-of-self
-invariant-of-self c =
+pub invariant_of-self : goal.invariant_of-self
+invariant_of-self c =
     let s = c.args.self.now in
     let t = s.graph in
     let m = rows_graph t.count t.rows in
@@ -16,5 +16,5 @@ invariant-of-self c =
     let hb : c.args.b < t.count = omega (arith, told, c.if-b-tables.false) in
     let simple : Simple m = record { some = t.some; few = t.few; symmetric = t.symmetric; loopless = t.loopless; within = t.within } in
     let more = joining_size m c.args.a c.args.b ha hb c.if-a-b.false simple (sym c.if-joined.ensures) in
-    let few : size (joining m c.args.a c.args.b) ≤ s.most = omega (arith, more, c.count_joins.ensures, c.if-count-joins-self.false) in
-    (subst (λ g. size g ≤ s.most) (sym c.join.ensures.meant) (after_few s.most c.join.result (joining m c.args.a c.args.b) m few s.fits), (s.low, tt))
+    let few : size (joining m c.args.a c.args.b) ≤ s.most = omega (arith, more, c.count_joins.ensures, c.if-count_joins-self.false) in
+    record { fits = subst (λ g. size g ≤ s.most) (sym c.join.ensures.meant) (after_few s.most c.join.result (joining m c.args.a c.args.b) m few s.fits); low = s.low }

@@ -6,8 +6,8 @@ use Rattle.calls.proofs.Few.{after_few}
 use Rattle.calls.proofs.narrow.NarrowEditableGraph.unjoin.Goals as goal
 
 -- there is one join less
-pub invariant-of-self : goal.invariant-of-self
-invariant-of-self c =
+pub invariant_of-self : goal.invariant_of-self
+invariant_of-self c =
     let s = c.args.self.now in
     let t = s.graph in
     let m = rows_graph t.count t.rows in
@@ -17,4 +17,4 @@ invariant-of-self c =
     let simple : Simple m = record { some = t.some; few = t.few; symmetric = t.symmetric; loopless = t.loopless; within = t.within } in
     let less = unjoining_size m c.args.a c.args.b ha hb c.if-a-b.true simple (sym c.if-joined.ensures) in
     let few : size (unjoining m c.args.a c.args.b) ≤ s.most = omega (arith, less, s.fits) in
-    (subst (λ g. size g ≤ s.most) (sym c.unjoin.ensures.meant) (after_few s.most c.unjoin.result (unjoining m c.args.a c.args.b) m few s.fits), (s.low, tt))
+    record { fits = subst (λ g. size g ≤ s.most) (sym c.unjoin.ensures.meant) (after_few s.most c.unjoin.result (unjoining m c.args.a c.args.b) m few s.fits); low = s.low }
