@@ -5,6 +5,6 @@
 #[cfg(test)]
 mod calls;
 #[cfg(test)]
-mod keys;
-#[cfg(test)]
 mod narrow;
+#[cfg(test)]
+mod same_keys;

@@ -5,11 +5,10 @@
 ghost use Rattle.std.specs.Prelude.{◌≡◌, take};
 
 use programs::replay::{replay_page, replay_text};
-use programs::workspace::{PAGE, TEXT};
+use programs::workspace::{Mark, PAGE, TEXT};
 use std::io;
 use std::io::{Read, Write};
 use streams::input::{read_rest, read_whole};
-use theory::mark::Mark;
 use theory::step::Step;
 
 /// Puts what was read into the longer text.
