@@ -2,14 +2,14 @@
 -- that taking the graph apart gives, and for everything else the line of a refusal; what it prints for two graphs is equal
 -- exactly when the graphs agree; and `replay` of what it prints gives the joins.
 --
---   IsQuery input n js ms rs   the input is the text of a query of n tables with the joins js, the marks ms, the row counts rs
---   LineAmiss input f          f is the refusal of the first line that is amiss
---   GivesList input out        the input is the text of a query, and the list of its graph is printed
---   RefusesQuery input out     the input is the text of no query: a line is amiss, and the line of its refusal is printed
---   RefusesBuild input out     the input is the text of a query whose graph has no legal build, and the line of 6, 7 or 8 is printed
+--   IsQuery input n js ms rs    the input is the text of a query of n tables with the joins js, the marks ms, the row counts rs
+--   LineAmiss input f           f is the refusal of the first line that is amiss
+--   GivesList input out         the input is the text of a query, and the list of its graph is printed
+--   RefusesQuery input out      the input is the text of no query: a line is amiss, and the line of its refusal is printed
+--   RefusesBuild input out      the input is the text of a query whose graph has no legal build, and the line of 6, 7 or 8 is printed
 --   Assembles input out         one of these three
---   OneKeyInBytes told out   what is printed for two queries that are accepted is equal exactly when their graphs agree
---   ReplaysToJoins told out   what is printed for a query that is accepted, given to `replay`, prints the joins of its graph
+--   OneKeyInBytes told out      what is printed for two queries that are accepted is equal exactly when their graphs agree
+--   ReplaysToJoins told out     what is printed for a query that is accepted, given to `replay`, prints the joins of its graph
 use Rattle.std.specs.Prelude.{◌≡◌, ℕ, ◌+◌, ◌≤◌, ◌⊎◌, ◌↔◌, List, length, take, ℤ, Ok, Result}
 use Rattle.theory.specs.Build.{LegalBuild}
 use Rattle.theory.specs.Graph.{Graph, joined, is_table, table_count}

@@ -1,11 +1,11 @@
 -- What a build request amounts to, in the words of searches, walks and legal builds. `r` is its answer, and `l` the records after.
 --
---   ListGiven m r l      the list given is the one that taking the graph apart yields, and no other is
---   LegalGiven m r l     the list given is a legal build of the graph, and has a step for each join but three
---   RefusedExactly m r   6, 7 or 8 is told exactly when no triangle and no list of steps whatever is a legal build of the graph
+--   ListGiven m r l       the list given is the one that taking the graph apart yields, and no other is
+--   LegalGiven m r l      the list given is a legal build of the graph, and has a step for each join but three
+--   RefusedExactly m r    6, 7 or 8 is told exactly when no triangle and no list of steps whatever is a legal build of the graph
 --   Named m r             7 names the lowest table that joins do not lead to from table 0, 8 the lowest articulation table of a
 --                         graph that is connected, 9 the number of steps, which is more than the records lent
---   PlaysBack m r l      the list given, played back into any editable graph of as many tables that has no joins and room for
+--   PlaysBack m r l       the list given, played back into any editable graph of as many tables that has no joins and room for
 --                         those of this one, is accepted and makes the same graph
 use Rattle.std.specs.Prelude.{◌≡◌, ℕ, ◌+◌, ◌<◌, ◌≤◌, ◌⊎◌, ◌↔◌, List, length, take, Ok, Err, Result}
 use Rattle.theory.specs.Graph.{Graph, joined, is_table, table_count, size, no_joins}

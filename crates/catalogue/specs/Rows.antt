@@ -8,7 +8,7 @@
 --   row_record z             the record of the stored number z
 --   records_after r l t z    the records l after z is set at t with the answer r: a refusal changes nothing
 --   count_of l t             the count of table t in the 64 records l, and unknown past them
---   SetsOne l l' t z r      the answer r to setting z at t, and the records before and after: accepted, the count of t is
+--   SetsOne l l' t z r       the answer r to setting z at t, and the records before and after: accepted, the count of t is
 --                            the stored one and every other is as it was; refused, all records are
 use Rattle.std.specs.Prelude.{◌≡◌, ℕ, Bool, cond, List, [], ◌∷◌, ℤ, pos, negsuc, Ok, Err, Result, ◌≢◌, nat_le, nat_lt, slice_index_or, slice_set}
 use Rattle.graph.specs.First.{refused_first}

@@ -4,7 +4,7 @@
 --   building m U             the build of a graph and the tables in use
 --   under_way m flags        the same by flags
 --   left r changed same      what an accepted change and a refused one leave
---   WithinUse m U           every join is between tables in use
+--   WithinUse m U            every join is between tables in use
 --   triangle_answer          the start's answer: from whether there are joins, the number of tables and the capacity
 --   corners t                the three tables of a triangle
 --   used_answer U k v w      13 where v, or else w, is not in use at step k

@@ -1,15 +1,15 @@
 -- What a replay amounts to, in the words of legal builds. `r` is what it tells, and `g` the graph that it leaves.
 --
---   AcceptedExactly m t l r g       on a graph without joins: accepted exactly when t and l are a legal build of g
---   AcceptedWithRoom cap m t l r   the same where there is room for all joins: exactly when they are a legal build of some
+--   AcceptedExactly m t l r g        on a graph without joins: accepted exactly when t and l are a legal build of g
+--   AcceptedWithRoom cap m t l r     the same where there is room for all joins: exactly when they are a legal build of some
 --                                    graph of as many tables
 --   conditions cap U g s             the conditions that a step meets in turn, each with the number of its refusal
---   RefusedAtFirst cap m t l r g   a refused step is the first that meets one of its conditions: those before it are
+--   RefusedAtFirst cap m t l r g     a refused step is the first that meets one of its conditions: those before it are
 --                                    allowed one after another and lead to the graph left, and the refusal's number is that
 --                                    of the first condition that holds
---   UnusedTold m t l r g            a refusal at the close names the lowest table not in use: the steps are all allowed one
+--   UnusedTold m t l r g             a refusal at the close names the lowest table not in use: the steps are all allowed one
 --                                    after another and lead to the graph left
---   StartTold m r g                 a refused triangle leaves the graph as it was, be it without joins or not
+--   StartTold m r g                  a refused triangle leaves the graph as it was, be it without joins or not
 use Rattle.std.specs.Prelude.{◌≡◌, ℕ, ◌+◌, ◌-◌, ◌<◌, ◌≤◌, Bool, not, ◌&&◌, ◌||◌, ◌↔◌, List, [], ◌∷◌, length, take, drop, Ok, Err, Result, ◌==◌, ◌≢◌, nat_le}
 use Rattle.theory.specs.Graph.{Graph, Lowest, joined, is_table, table_count, size, no_joins}
 use Rattle.theory.specs.Build.{Builds, LegalBuild, triangle}

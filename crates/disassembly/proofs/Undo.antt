@@ -2,7 +2,7 @@
 --
 --   builds_more, one_step      builds one after another, and of one step
 --   part_path                  parts that agree on every table and on every pair are equal
---   SimplePart p              what holds of the joins of a part
+--   SimplePart p               what holds of the joins of a part
 --   apart, ends_in             what a join tells of its two tables
 --   append_nil, append_more, reversed_append   lists put together, and reversed
 --   unjoin_simple, stripped_simple          joins taken out leave a simple part

@@ -2,7 +2,7 @@
 --
 --   join_walks, bind, turned, one, stays   walks from walks
 --   walk_in                                 a set that each step stays in is not left by a walk
---   LeadsIn, Linked, Biconnected           steps within a set, connected sets, and sets that stay connected without any one table
+--   LeadsIn, Linked, Biconnected            steps within a set, connected sets, and sets that stay connected without any one table
 --   linked_like                             connected sets with the same tables
 --   connected_linked, linked_connected      the two ways to say connected
 --   without_true, true_without              the tables other than x

@@ -3,7 +3,7 @@
 --
 --   In, Joined                     a table in use of a part, and a join of it
 --   hangs_like, hangs_simple       parts that hang on a tree
---   Ready, AllReady               u may be taken away; each of a list of tables may in its turn
+--   Ready, AllReady                u may be taken away; each of a list of tables may in its turn
 --   taken_builds, taken_away, taken_hangs, taken_within   one table
 --   all_builds, all_away, all_hangs, all_within           all of them
 --   three_full                     three tables that hang on a tree are joined pairwise

@@ -6,7 +6,7 @@
 --   unjoin v w p            the part p without the join of v and w
 --   stripped u vs p         the part p without the joins of u with the tables vs, removed one after another
 --   spliced u f a p         the part p with u and its joins replaced by the join of f and a
---   RisingList p l         l has each number that passes the test p exactly once, in rising order, and nothing else
+--   RisingList p l          l has each number that passes the test p exactly once, in rising order, and nothing else
 --   TakesAway parent rank u p notes q
 --                           taking u away from part p gives the notes, in their order, and leaves part q
 --   TakesAll parent rank us p notes q

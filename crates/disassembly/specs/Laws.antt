@@ -1,13 +1,13 @@
 -- What is proved of walks, searches and build lists, for every set of tables U and joins J on it, and every start r in U.
 --
 --   Fit U J                  three tables or more, connected, and no articulation table
---   HasBuild U J            there is a legal build
---   HasBuildExactly        exactly the fit graphs have a legal build (Whitney)
---   ReachedExactly          a search discovers exactly the tables that joins lead to from its start
---   SeparatesExactly        the test on a search without one table finds exactly the articulation tables
+--   HasBuild U J             there is a legal build
+--   HasBuildExactly          exactly the fit graphs have a legal build (Whitney)
+--   ReachedExactly           a search discovers exactly the tables that joins lead to from its start
+--   SeparatesExactly         the test on a search without one table finds exactly the articulation tables
 --   Stands                   the list given stands in the relation, where the graph is fit
---   OnlyList                no other list stands in it
---   GivenBuilds             the list given is a legal build
+--   OnlyList                 no other list stands in it
+--   GivenBuilds              the list given is a legal build
 use Rattle.std.specs.Prelude.{◌≡◌, ℕ, ◌≤◌, Bool, true, ◌↔◌, List}
 use Rattle.theory.specs.Graph.{count}
 use Rattle.theory.specs.Build.{Ascending, triangle, Builds}

@@ -2,9 +2,9 @@
 --
 --   Child parent seen r x c       the search discovered c from x
 --   Confined J parent seen r x c  no join leads from c, or a table below it, to a table discovered before x
---   LowCut J parent seen r x     x is an articulation table by low points: it is not the root and a child of it is confined by
+--   LowCut J parent seen r x      x is an articulation table by low points: it is not the root and a child of it is confined by
 --                                 it, or it is the root and has a child besides the one discovered first
---   LowCutsExactly              on a connected graph these are exactly the articulation tables
+--   LowCutsExactly                on a connected graph these are exactly the articulation tables
 use Rattle.std.specs.Prelude.{◌≡◌, ℕ, ◌≤◌, Bool, true, ◌⊎◌, ◌↔◌, List, [], ◌≢◌}
 use Rattle.disassembly.specs.Walks.{Articulation, SimpleOn}
 use Rattle.disassembly.specs.Search.{has, Visit, discovery}

@@ -7,7 +7,7 @@
 --   Connected U J       they lead from any table of U to any other
 --   without x U         the tables of U other than x
 --   Articulation U J x  a table of U whose removal, with its joins, leaves the other tables not connected
---   SimpleOn U J       what holds of the joins of a graph: between two different tables of U, all of them below 64
+--   SimpleOn U J        what holds of the joins of a graph: between two different tables of U, all of them below 64
 use Rattle.std.specs.Prelude.{◌≡◌, ℕ, ◌<◌, Bool, true, false, not, ◌&&◌, ◌==◌}
 
 pub data Walk (R : ℕ → ℕ → Type 0) : ℕ → ℕ → Type 0 where

@@ -3,7 +3,7 @@
 --   key_number, key_value, key_graph   the number of a refusal, what it names, and whose it is
 --   Compared m k a b r                 the first graph's refusal, or else the second's, or else whether the lists are equal
 --   second_after j k l                 the second's records after: it is not asked where j refuses the first
---   OneKey m k r                      the keys are equal exactly when the graphs agree on every pair of tables
+--   OneKey m k r                       the keys are equal exactly when the graphs agree on every pair of tables
 use Rattle.std.specs.Prelude.{◌≡◌, ℕ, Bool, true, ◌↔◌, List, Ok, Err, Result}
 use Rattle.theory.specs.Graph.{Graph, joined}
 use Rattle.theory.specs.declared.step.Step.{Step}

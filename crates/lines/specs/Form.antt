@@ -3,7 +3,7 @@
 --   Agrees t text at k    the first k bytes of t are those of the text from `at` on
 --   Begins text at k      some line that can be written begins with the k bytes from `at` on; past its end a text has the
 --                         byte 0, which no line has
---   LineRead text at r   the answer r to reading the line at `at`: the line whose text stands there, or the place of the
+--   LineRead text at r    the answer r to reading the line at `at`: the line whose text stands there, or the place of the
 --                         first byte that no line begun so can have, which is the text's end where the line is cut off
 use Rattle.std.specs.Prelude.{◌≡◌, ℕ, ◌+◌, ◌<◌, List, Ok, Err, Result, slice_index}
 use Rattle.lines.specs.Text.{line_text, Written}

@@ -2,7 +2,7 @@
 --
 --   poured_append, poured_length   laying splits over ++; there are as many slots as before
 --   poured_front, poured_back      where there is room, the records stand behind those before them, and the slots after them are as they were
---   Goes_on                        laying what is left gives what laying all gives
+--   GoesOn                         laying what is left gives what laying all gives
 --   starts, goes_as, goes_on, room, ends    before the first, what is left said in another way, from one piece to the next, room for the next piece, after the last
 --   room_first, room_second, room_last, all_laid, all_high    three pieces
 use Rattle.std.proofs.Common.{◌≡◌, ℕ, suc, ◌+◌, ◌≤◌, List, [], ◌∷◌, ◌++◌, length, take, drop, set, sym, refl, ap, ◌∙◌, subst, arith, length-set}
@@ -38,30 +38,30 @@ poured_back slots k (x ∷ l) =
     ∙ drop-set-lt (k + 1 + length l) slots k x (omega arith)
     ∙ sym (ap (λ n. drop n slots) e)
 
-pub record Goes_on {T : Type 0} (slots : List T) (k : ℕ) (l : List T) (first : List T) (start : ℕ) (all : List T) : Type 0 where
+pub record GoesOn {T : Type 0} (slots : List T) (k : ℕ) (l : List T) (first : List T) (start : ℕ) (all : List T) : Type 0 where
   pub same : poured slots k l ≡ poured first start all
   pub many : k + length l ≡ start + length all
   pub long : length slots ≡ length first
 
-pub starts : {T : Type 0} (slots : List T) (k : ℕ) (l all : List T) → l ≡ all → Goes_on slots k l slots k all
+pub starts : {T : Type 0} (slots : List T) (k : ℕ) (l all : List T) → l ≡ all → GoesOn slots k l slots k all
 starts slots k l all e = record { same = ap (poured slots k) e; many = ap (λ r. k + length r) e; long = refl }
 
-pub goes_as : {T : Type 0} (slots : List T) (k : ℕ) (l l' first : List T) (start : ℕ) (all : List T) → l ≡ l' → Goes_on slots k l first start all → Goes_on slots k l' first start all
-goes_as slots k l l' first start all e g = subst (λ r. Goes_on slots k r first start all) e g
+pub goes_as : {T : Type 0} (slots : List T) (k : ℕ) (l l' first : List T) (start : ℕ) (all : List T) → l ≡ l' → GoesOn slots k l first start all → GoesOn slots k l' first start all
+goes_as slots k l l' first start all e g = subst (λ r. GoesOn slots k r first start all) e g
 
-pub goes_on : {T : Type 0} (slots slots' : List T) (k k' : ℕ) (l r first : List T) (start : ℕ) (all : List T) → Goes_on slots k (l ++ r) first start all
-    → slots' ≡ poured slots k l → k' ≡ k + length l → Goes_on slots' k' r first start all
+pub goes_on : {T : Type 0} (slots slots' : List T) (k k' : ℕ) (l r first : List T) (start : ℕ) (all : List T) → GoesOn slots k (l ++ r) first start all
+    → slots' ≡ poured slots k l → k' ≡ k + length l → GoesOn slots' k' r first start all
 goes_on slots slots' k k' l r first start all g laid height = record {
   same = ap (λ s. poured s k' r) laid ∙ ap (λ n. poured (poured slots k l) n r) height ∙ sym (poured_append slots k l r) ∙ g.same;
   many = omega (arith, g.many, length-append l r);
   long = ap length laid ∙ poured_length slots k l ∙ g.long;
 }
 
-pub room : {T : Type 0} (slots : List T) (k : ℕ) (l r first : List T) (start : ℕ) (all : List T) → Goes_on slots k (l ++ r) first start all
+pub room : {T : Type 0} (slots : List T) (k : ℕ) (l r first : List T) (start : ℕ) (all : List T) → GoesOn slots k (l ++ r) first start all
     → start + length all ≤ length first → k + length l ≤ length slots
 room slots k l r first start all g fits = omega (arith, g.many, g.long, length-append l r)
 
-pub ends : {T : Type 0} (slots : List T) (k : ℕ) (l first : List T) (start : ℕ) (all : List T) → Goes_on slots k l first start all → l ≡ []
+pub ends : {T : Type 0} (slots : List T) (k : ℕ) (l first : List T) (start : ℕ) (all : List T) → GoesOn slots k l first start all → l ≡ []
     → (slots ≡ poured first start all) × (k ≡ start + length all)
 ends slots k l first start all g e = (sym (ap (poured slots k) e) ∙ g.same, omega (arith, g.many, ap length e))
 
@@ -70,21 +70,21 @@ module _ {T : Type 0} (slots : List T) (k : ℕ) (l r : List T) (x : T) (fits : 
   abbrev all : List T
   all = l ++ (r ++ (x ∷ []))
 
-  at_first : Goes_on slots k all slots k all
+  at_first : GoesOn slots k all slots k all
   at_first = starts slots k all all refl
 
   pub room_first : k + length l ≤ length slots
   room_first = room slots k l (r ++ (x ∷ [])) slots k all at_first fits
 
   module _ (slots₁ : List T) (k₁ : ℕ) (laid₁ : slots₁ ≡ poured slots k l) (height₁ : k₁ ≡ k + length l) where
-    at_second : Goes_on slots₁ k₁ (r ++ (x ∷ [])) slots k all
+    at_second : GoesOn slots₁ k₁ (r ++ (x ∷ [])) slots k all
     at_second = goes_on slots slots₁ k k₁ l (r ++ (x ∷ [])) slots k all at_first laid₁ height₁
 
     pub room_second : k₁ + length r ≤ length slots₁
     room_second = room slots₁ k₁ r (x ∷ []) slots k all at_second fits
 
     module _ (slots₂ : List T) (k₂ : ℕ) (laid₂ : slots₂ ≡ poured slots₁ k₁ r) (height₂ : k₂ ≡ k₁ + length r) where
-      at_last : Goes_on slots₂ k₂ (x ∷ []) slots k all
+      at_last : GoesOn slots₂ k₂ (x ∷ []) slots k all
       at_last = goes_on slots₁ slots₂ k₁ k₂ r (x ∷ []) slots k all at_second laid₂ height₂
 
       pub room_last : k₂ + 1 ≤ length slots₂

@@ -1,6 +1,6 @@
 -- The joins of one table taken out, neighbour by neighbour, and the notes of it.
 --
---   SoFar u m S J K         the joins K are those of J, without the joins with u of the tables of S that are no more in the mask m
+--   SoFar u m S J K          the joins K are those of J, without the joins with u of the tables of S that are no more in the mask m
 --   so_far_start, so_far_on, so_far_end   before the first table, from one to the next, after the last
 --   notes_first              the lowest table of a mask is the next to be noted
 --   others_mask, others_held, others_of   the neighbours of u other than f and a, as a mask

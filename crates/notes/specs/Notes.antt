@@ -4,7 +4,7 @@
 --   joins_in rows        the test on pairs that rows of bits keep
 --   part_in tables rows  the part with these tables in use, given as bits, and these joins
 --   Symmetric J          the joins go both ways
---   Below64 l           each entry is the number of a table
+--   Below64 l            each entry is the number of a table
 --   tables_of mask       the tables of a mask, in rising number
 --   others J u f a       u's neighbours other than f and a, in rising number
 --   notes_in J u f a     the notes of taking u away where f and a are the two ends that stay; the tables in use play no part

@@ -2,7 +2,7 @@
 --
 --   graph_line m          G: tables, joins, unused
 --   join_line p           J: unused, v, w
---   text_of_graph m          the whole text
+--   text_of_graph m       the whole text
 --   graph_length m        its bytes
 --   graph_answer m b      9 with the bytes needed where b are lent, or the bytes written; no number of a graph is over 99,999
 --   graph_written m out   the bytes lent, afterwards

@@ -1,6 +1,6 @@
 -- What the program `replay` amounts to, in bytes: it prints a graph exactly where the text read is that of a legal build.
 --
---   BuildsGraph input out   the input is the text of a legal build of a graph, and that graph's text is printed
+--   BuildsGraph input out    the input is the text of a legal build of a graph, and that graph's text is printed
 --   Refuses input out        the input is the text of no legal build, and one line is printed: that of a refusal
 --   Replays input out        the one or the other
 use Rattle.std.specs.Prelude.{◌≡◌, ℕ, ◌≤◌, ◌⊎◌, List}

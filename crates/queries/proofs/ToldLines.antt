@@ -1,6 +1,6 @@
 -- What is told of one line: it stands there with the letter due, or what is told of it is so.
 --
---   ToldLine text p due line r   the answer r to reading a line at p with the letter `due`; `line` has the line of a value
+--   ToldLine text p due line r    the answer r to reading a line at p with the letter `due`; `line` has the line of a value
 --   pair_told, row_told           of a J or M line, and of an R line
 --   head_told                     of the G line
 use Rattle.std.proofs.Common.{◌≡◌, ℕ, ◌+◌, ◌-◌, ◌≤◌, Bool, true, false, cond, eqb, ltb, List, Some, Ok, Err, Result, sym, refl, ap, subst, arith}

@@ -8,14 +8,14 @@
 --   last_count rs t c               the count of the last of the row counts rs that is for table t, and c where there is none
 --   Left n js ms rs …               the graph, the mark records and the catalogue after these lines
 --   Due n m j k r c                 after j joins, k marks and r row counts, c is a letter that can follow
---   NothingOwed n m j k            and the text may end there
---   GoodHead text at room n m      a G line that is accepted
---   GoodJoin n js p, GoodRow n r  a join that the store accepts after those of js; a row count that the catalogue accepts
+--   NothingOwed n m j k             and the text may end there
+--   GoodHead text at room n m       a G line that is accepted
+--   GoodJoin n js p, GoodRow n r    a join that the store accepts after those of js; a row count that the catalogue accepts
 --   Begun text at room n m js ms rs   from `at` on there stand these lines of a query, each due and each accepted
 --   place_after at js ms rs         where the line after these begins
---   QueryStands …                  what an accepted query is
---   HeadAmiss, Amiss               what is amiss with the G line; with the line after those that were accepted
---   QueryAccepted, QueryRefused   the two laws, for whatever is told
+--   QueryStands …                   what an accepted query is
+--   HeadAmiss, Amiss                what is amiss with the G line; with the line after those that were accepted
+--   QueryAccepted, QueryRefused     the two laws, for whatever is told
 use Rattle.std.specs.Prelude.{◌≡◌, ℕ, ◌+◌, ◌-◌, ◌*◌, ◌<◌, ◌≤◌, Bool, true, false, cond, ◌||◌, ◌⊎◌, List, [], ◌∷◌, ◌++◌, length, drop, ℤ, Ok, Err, Result, ◌==◌, ◌≢◌}
 use Rattle.std.specs.List.{flat_map}
 use Rattle.theory.specs.Graph.{Graph, same_pair, no_joins}

@@ -1,6 +1,6 @@
 -- Cross joins of a graph m with a spanning tree t, for each root r.
 --
---   OnPath t r a b      a lies on the marked path from r to b: it is one of its ends, or without it the marks do not lead from r to b
+--   OnPath t r a b       a lies on the marked path from r to b: it is one of its ends, or without it the marks do not lead from r to b
 --   on_path t r a b      the same as a test, by a search
 --   cross m t r a b      a and b are joined, the join is not marked, and neither lies on the marked path from r to the other
 --   cross_count m t r    the number of cross joins

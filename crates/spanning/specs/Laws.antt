@@ -1,15 +1,15 @@
 -- What is proved of spanning trees, for every graph m and every spanning tree t of as many tables whose marks are joins of m.
 --
---   MarksOf m t         t is a spanning tree of as many tables as m, and its marks are joins of m
---   OnPathExactly      the test finds exactly the tables on the marked path
---   DrivesExactly       a table drives exactly when its cross count is zero
+--   MarksOf m t          t is a spanning tree of as many tables as m, and its marks are joins of m
+--   OnPathExactly        the test finds exactly the tables on the marked path
+--   DrivesExactly        a table drives exactly when its cross count is zero
 --   Under t s x          x is s, or lies beyond s as seen from table 0
 --   unmarked m t a b     a and b are joined, and the join is not marked
---   CountAtZero        a cross join for table 0 is an unmarked one between two tables of which neither is under the other
---   CountAlong          from a table's parent to the table, the cross count grows by the unmarked joins of the parent with tables
+--   CountAtZero          a cross join for table 0 is an unmarked one between two tables of which neither is under the other
+--   CountAlong           from a table's parent to the table, the cross count grows by the unmarked joins of the parent with tables
 --                        under it, and falls by its own unmarked joins with tables not under it
---   ClosesNothing       a mark between two tables that the marks do not connect closes no ring
---   EnoughMarks         marks without a ring, one fewer than tables, connect all of them
+--   ClosesNothing        a mark between two tables that the marks do not connect closes no ring
+--   EnoughMarks          marks without a ring, one fewer than tables, connect all of them
 use Rattle.std.specs.Prelude.{◌≡◌, ℕ, ◌+◌, ◌<◌, Bool, true, not, ◌&&◌, ◌↔◌}
 use Rattle.theory.specs.Build.{without_join}
 use Rattle.theory.specs.Graph.{Graph, Simple, joined, joining, is_table, table_count, size, count, pairs}

@@ -2,7 +2,7 @@
 --
 --   refused, when_so, unless_so       a refusal is no answer; what follows where a judgement with one is an answer
 --   step_stands, triangle_stands, head_stands   a line that is accepted as such stands there; an H line's numbers are within their limits
---   StepsStand text at k i l after   k step lines stand from `at` on, and `after` is the records l with their steps put in from the i-th on
+--   StepsStand text at k i l after    k step lines stand from `at` on, and `after` is the records l with their steps put in from the i-th on
 --   steps_stand                       so it is where the steps are accepted
 --   same_text                         the whole list
 use Rattle.std.proofs.Common.{◌≡◌, ℕ, zero, suc, ◌+◌, ◌*◌, ◌<◌, ◌≤◌, Bool, true, false, cond, eqb, ltb, List, [], ◌∷◌, ◌++◌, length, take, drop, set, Ok, Err, Result, sym, refl, ap, ◌∙◌, subst, arith, length-set, take-append-drop}

@@ -1,16 +1,16 @@
 -- What reading and writing a list amount to: an accepted text is the one that would be written, a written text reads
 -- back as the same list, and a refused text has the fault that is told, with nothing amiss before it.
 --
---   SameText text at l l' told      where a list is told: its text stands from `at` on to the end told, it can be written, and
+--   SameText text at l l' told       where a list is told: its text stands from `at` on to the end told, it can be written, and
 --                                    the records past its steps are as they were
---   ReadsBack n t l out told        where a list was written into `out`: reading it, into any records enough for it, gives it
+--   ReadsBack n t l out told         where a list was written into `out`: reading it, into any records enough for it, gives it
 --   Here text at l                   the line l can be written, and stands at `at`
 --   Due j c                          c is a letter due at the j-th line of a list
---   DueLine text at j               the j-th line of the list that begins at `at` is in form, with a letter due there
+--   DueLine text at j                the j-th line of the list that begins at `at` is in form, with a letter due there
 --   Headed text at n m k             an H line with these numbers stands at `at`
 --   Stood text at room i             the first i lines of a list are as they should be, and the i-th is one of its lines
 --   IsBadForm, WrongLetter, HeadOutside, IsTooFew   what the refusals 15, 16, 17 and 9 of a list say
---   RefusedText text at room told   where a list is refused: the fault told is there
+--   RefusedText text at room told    where a list is refused: the fault told is there
 --   Follows text at told             what stands where nothing may follow
 use Rattle.std.specs.Prelude.{◌≡◌, ℕ, zero, suc, ◌+◌, ◌*◌, ◌<◌, ◌≤◌, true, false, ◌⊎◌, List, ◌++◌, length, take, drop, Ok, Err, Result, ◌≢◌}
 use Rattle.lines.specs.Form.{Agrees, Longest}

@@ -8,7 +8,7 @@
 --   after s p          the part that step s makes of p
 --   Builds p l q       the steps l, each allowed in its turn, lead from part p to part q
 --   whole m            a graph as a part: all of its tables in use, and its joins
---   LegalBuild m t l  triangle t and steps l are a legal build of the graph m
+--   LegalBuild m t l   triangle t and steps l are a legal build of the graph m
 use Rattle.std.specs.Prelude.{◌≡◌, ℕ, ◌<◌, Bool, true, false, not, ◌&&◌, ◌||◌, List, [], ◌∷◌, ◌==◌, ◌≢◌}
 use Rattle.theory.specs.Graph.{Graph, same_pair, is_table}
 use Rattle.theory.specs.declared.step.Step.{Step}

@@ -4,7 +4,7 @@
 --   rows_from m v k    the joins of each of the k tables from v on with the tables above it
 --   joins_of m         all joins
 --   Rises l            each pair stands before the next by its lower table, or by its higher one where the lower is the same
---   ListsJoins m l    l has each join of m exactly once, the lower table first, in rising order, and nothing else
+--   ListsJoins m l     l has each join of m exactly once, the lower table first, in rising order, and nothing else
 use Rattle.std.specs.Prelude.{◌≡◌, ℕ, zero, suc, ◌+◌, ◌<◌, true, cond, ◌⊎◌, List, [], ◌∷◌, ◌++◌, length, get_or, slice_index_or}
 use Rattle.theory.specs.Graph.{Graph, joined, table_count, size}
 

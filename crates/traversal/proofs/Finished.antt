@@ -20,7 +20,7 @@ use Rattle.traversal.specs.Standing.{stacked, row_joins}
 use Rattle.traversal.specs.Folding.{parent_of, left_at, folded, Whole}
 use Rattle.traversal.specs.declared.state.State.{State}
 use Rattle.traversal.specs.declared.lows.Lows.{Lows}
-use Rattle.traversal.proofs.Stacks.{get_d_set}
+use Rattle.traversal.proofs.Stacks.{get_or_set}
 use Rattle.traversal.proofs.Before.{stacked_in, stacked_part}
 use Rattle.traversal.proofs.Cuts.{Folded, fold_start, Ord, ord_tail, ord_all, fold_more, folded_exactly}
 
@@ -42,7 +42,7 @@ Fits64 l = (length l ≡ 64) × ((x : ℕ) → get_or l x 0 < 2 ^ 64)
 set_fits : (l : List ℕ) (k v : ℕ) → Fits64 l → k < 64 → v < 2 ^ 64 → Fits64 (set l k v)
 set_fits l k v fits low small =
     let long : length l ≡ 64 = fits.0 in
-    (length-set l k v ∙ long, λ x. subst (λ y. y < 2 ^ 64) (sym (get_d_set l k v x (omega arith))) (pick (eqb x k) v (get_or l x 0) small (fits.1 x)))
+    (length-set l k v ∙ long, λ x. subst (λ y. y < 2 ^ 64) (sym (get_or_set l k v x (omega arith))) (pick (eqb x k) v (get_or l x 0) small (fits.1 x)))
   where
     pick : (c : Bool) (a b : ℕ) → a < 2 ^ 64 → b < 2 ^ 64 → cond c a b < 2 ^ 64
     pick true a b h k = h

@@ -22,7 +22,7 @@ use Rattle.traversal.specs.Standing.{stacked, below, before, row_joins, bits_set
 use Rattle.traversal.specs.declared.state.State.{State}
 use Rattle.traversal.specs.declared.state.Position.{Position}
 use Rattle.traversal.proofs.Sets.{and_bits, put_bit, take_bit, single_bit, one_fewer, set_most}
-use Rattle.traversal.proofs.Stacks.{get_d_set, getD_zeros, stacked_push, below_push, top_some, top_none}
+use Rattle.traversal.proofs.Stacks.{get_or_set, get_or_zeros, stacked_push, below_push, top_some, top_none}
 
 pub record Sized (s : State) : Type 0 where
   pub of_parents : length s.parents ≡ 64
@@ -55,9 +55,9 @@ module _ (U : ℕ → Bool) (p : Place) (s : State) (u : ℕ) (z : Sized s) (q :
 
   pub discover_stands : Stands U (move (Some u) s.table st p) (discovered s u)
   discover_stands = record {
-    parents = λ x. get_d_set s.parents u s.table x (omega (arith, z.of_parents)) ∙ ap (cond (eqb x u) s.table) (q.parents x);
-    numbers = λ x. get_d_set s.numbers u s.found x (omega (arith, z.of_numbers)) ∙ ap₂ (cond (eqb x u)) q.found (q.numbers x);
-    earlier = λ x y. ap (λ v. bit v y) (get_d_set s.earlier u s.seen x (omega (arith, z.of_earlier)))
+    parents = λ x. get_or_set s.parents u s.table x (omega (arith, z.of_parents)) ∙ ap (cond (eqb x u) s.table) (q.parents x);
+    numbers = λ x. get_or_set s.numbers u s.found x (omega (arith, z.of_numbers)) ∙ ap₂ (cond (eqb x u)) q.found (q.numbers x);
+    earlier = λ x y. ap (λ v. bit v y) (get_or_set s.earlier u s.seen x (omega (arith, z.of_earlier)))
         ∙ pick_bit (eqb x u) s.seen (get_or s.earlier x 0) y p.seen (before p.seen x) (q.seen y) (q.earlier x y);
     left = q.left;
     found = omega (arith, q.found);
@@ -65,7 +65,7 @@ module _ (U : ℕ → Bool) (p : Place) (s : State) (u : ℕ) (z : Sized s) (q :
     fresh = λ x. take_bit s.fresh u low held x ∙ still_fresh (eqb x u) (U x) (has p.seen x) (bit s.fresh x) (q.fresh x);
     room = omega (arith, q.room, fewer);
     gone = omega (arith, q.gone);
-    small = λ x. subst (λ v. v < 64) (sym (get_d_set s.parents u s.table x (omega (arith, z.of_parents)))) (pick_small (eqb x u) s.table (get_or s.parents x 0) small (q.small x));
+    small = λ x. subst (λ v. v < 64) (sym (get_or_set s.parents u s.table x (omega (arith, z.of_parents)))) (pick_small (eqb x u) s.table (get_or s.parents x 0) small (q.small x));
     low = q.low;
   }
 
@@ -157,7 +157,7 @@ module _ (U : ℕ → Bool) (rows : List ℕ) (few : Below64 U) (p : Place) (s :
           room = room;
           gone = omega arith;
           small = q.stands.small;
-          low = λ x. subst (λ v. v < 64) (sym (get_d_set s.left s.count s.table x (omega (arith, z.of_left)))) (pick_small (eqb x s.count) s.table (get_or s.left x 0) table_small (q.stands.low x));
+          low = λ x. subst (λ v. v < 64) (sym (get_or_set s.left s.count s.table x (omega (arith, z.of_left)))) (pick_small (eqb x s.count) s.table (get_or s.left x 0) table_small (q.stands.low x));
         }
 
     back : moved U (row_joins rows) p ≡ move None s.table (below k slots) p
@@ -214,17 +214,17 @@ module _ (tables r : ℕ) (held : bit tables r ≡ true) (small : r < 64) where
       let fewer : bits_set tables ≡ bits_set (bit_xor tables (one_bit r)) + 1 = one_fewer tables (bit_xor tables (one_bit r)) r small held (take_bit tables r small held) in
       let most : bits_set tables ≤ 64 = set_most tables in
       record {
-        parents = λ x. getD_zeros 64 x;
-        numbers = λ x. getD_zeros 64 x ∙ sym (one_nought (eqb x r));
-        earlier = λ x y. ap (λ v. bit v y) (getD_zeros 64 x) ∙ zero_bit y ∙ sym (has_none (eqb x r) y);
+        parents = λ x. get_or_zeros 64 x;
+        numbers = λ x. get_or_zeros 64 x ∙ sym (one_nought (eqb x r));
+        earlier = λ x y. ap (λ v. bit v y) (get_or_zeros 64 x) ∙ zero_bit y ∙ sym (has_none (eqb x r) y);
         left = refl;
         found = omega arith;
         seen = λ x. single_bit r small x ∙ (grind (arith, nat_tests));
         fresh = λ x. take_bit tables r small held x ∙ start_fresh (eqb x r) (bit tables x);
         room = omega arith;
         gone = omega arith;
-        small = λ x. let e : get_or {A = ℕ} (replicate 64 0) x 0 ≡ 0 = getD_zeros 64 x in omega arith;
-        low = λ x. let e : get_or {A = ℕ} (replicate 64 0) x 0 ≡ 0 = getD_zeros 64 x in omega arith;
+        small = λ x. let e : get_or {A = ℕ} (replicate 64 0) x 0 ≡ 0 = get_or_zeros 64 x in omega arith;
+        low = λ x. let e : get_or {A = ℕ} (replicate 64 0) x 0 ≡ 0 = get_or_zeros 64 x in omega arith;
       }
 
   start_standing : (slots : List Position) → length slots ≡ 64 → Standing (bit tables) (at_start r) (started tables r) 0 slots

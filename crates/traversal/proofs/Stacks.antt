@@ -1,6 +1,6 @@
 -- Lists, most recent first, kept in arrays that are filled from the front.
 --
---   get_d_set, getD_zeros                 an array after one write; an array of zeros
+--   get_or_set, get_or_zeros             an array after one write; an array of zeros
 --   stacked_set, stacked_push            the first k entries where a later one, or the next, is written
 --   reversed_stacked                     turned round, they are the front of the array
 --   below_push                           the same for positions
@@ -13,17 +13,17 @@ use Rattle.memory.specs.Stack.{record_at, top_of}
 use Rattle.traversal.specs.Standing.{stacked, tables_of, below}
 use Rattle.traversal.specs.declared.state.Position.{Position}
 
-pub get_d_set : (l : List ℕ) (u v x : ℕ) → u < length l → get_or (set l u v) x 0 ≡ cond (eqb x u) v (get_or l x 0)
-get_d_set l u v x h =
+pub get_or_set : (l : List ℕ) (u v x : ℕ) → u < length l → get_or (set l u v) x 0 ≡ cond (eqb x u) v (get_or l x 0)
+get_or_set l u v x h =
     ⊎_elim
     (λ (e : x ≡ u). ap (λ k. get_or (set l u v) k 0) e ∙ get_or-set_same l u v 0 h ∙ sym (cond-true (eqb x u) v (get_or l x 0) (eq-eqb x u e)))
     (λ (ne : x ≡ u → ⊥). get_or-set_other l u x v 0 ne ∙ sym (cond-false (eqb x u) v (get_or l x 0) (ne_eqb x u ne)))
     (cases_eq x u)
 
-pub getD_zeros : (n k : ℕ) → get_or {A = ℕ} (replicate n 0) k 0 ≡ 0
-getD_zeros zero k = refl
-getD_zeros (suc n) zero = refl
-getD_zeros (suc n) (suc k) = getD_zeros n k
+pub get_or_zeros : (n k : ℕ) → get_or {A = ℕ} (replicate n 0) k 0 ≡ 0
+get_or_zeros zero k = refl
+get_or_zeros (suc n) zero = refl
+get_or_zeros (suc n) (suc k) = get_or_zeros n k
 
 pub stacked_set : (k : ℕ) (l : List ℕ) (j x : ℕ) → k ≤ j → stacked k (set l j x) ≡ stacked k l
 stacked_set zero l j x h = refl

@@ -1,11 +1,11 @@
 -- Articulation tables by low points, in the order in which a search left the tables.
 --
 --   parent_of, left_at       the parent of a table, and the k-th table that was left
---   cuts_off_by s r w v         whether v, by what it touches, makes its parent an articulation table
+--   cuts_off_by s r w v      whether v, by what it touches, makes its parent an articulation table
 --   handed_on w v f cut      the low points w after v handed on what it touches to f, which is an articulation table where cut is true
 --   folded s r w k           the low points w after the k-th table left handed on what it touches to its parent
 --   Whole U J r s            the state s is that of the finished search from r, which discovered all tables of U
---   SomeWhole rows r s      the same of some set of tables, with the joins that the rows keep
+--   SomeWhole rows r s       the same of some set of tables, with the joins that the rows keep
 use Rattle.std.specs.Prelude.{◌≡◌, ℕ, Bool, true, cond, not, List, ◌==◌, bit_and, bit_or, slice_index, slice_set}
 use Rattle.disassembly.specs.Search.{has, searched}
 use Rattle.disassembly.specs.Walks.{SimpleOn}

@@ -14,7 +14,7 @@
 --   Stands U p s           the state s stands for place p of a search among the tables U, but for the stack
 --   Standing U p s k slots the same, with the stack: the table it stands on, and the first k positions of the slots
 --   Stopped U p s          the same where the stack is empty
---   Below64 U             only numbers below 64 are in the set U
+--   Below64 U              only numbers below 64 are in the set U
 --   Able s k slots         the state and the stack stand for some place
 --   After going U p s k slots
 --                          a move that answers `going` came to place p: the search goes on there, or has ended

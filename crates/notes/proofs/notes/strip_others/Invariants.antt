@@ -3,7 +3,7 @@ use Rattle.std.proofs.Common.{◌≡◌, ◌<◌, length}
 use Rattle.bits.specs.Rows.{bit}
 use Rattle.disassembly.specs.Disassembly.{edges}
 use Rattle.notes.specs.Notes.{joins_in, tables_of}
-use Rattle.notes.proofs.Poured.{Goes_on}
+use Rattle.notes.proofs.Poured.{GoesOn}
 use Rattle.notes.proofs.Strip.{SoFar, Of}
 use Rattle.notes.proofs.notes.strip_others.Given as goal
 
@@ -13,7 +13,7 @@ invariant-loop-rest l =
     × (length l.rows ≡ 64)
     × Of l.rest (bit l.tables)
     × SoFar l.u l.rest (bit l.tables) (joins_in l.initial.rows) (joins_in l.rows)
-    × Goes_on l.notes.slots.now l.notes.len (edges l.u (tables_of l.rest))
+    × GoesOn l.notes.slots.now l.notes.len (edges l.u (tables_of l.rest))
     l.initial.notes.slots.now l.initial.notes.len (edges l.u (tables_of l.tables))
     × (l.notes.slots.ghost_name ≡ l.initial.notes.slots.ghost_name)
 
