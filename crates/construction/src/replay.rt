@@ -4,8 +4,10 @@
 //! The inner functions are small, one for each thing that is judged or done. Those that change something say in `answer`
 //! what they answer, in `meant` what they leave (a refusal changes nothing), and in `same` that the capacity stays.
 ghost use Rattle.std.specs.Prelude.{◌≡◌, ℕ, ◌<◌, ◌≤◌, true, false, ◌≢◌};
-ghost use Rattle.theory.specs.Graph.{joined as joins, table_count, some_join};
+ghost use Rattle.theory.specs.Graph.{joined as joins, table_count, unjoining, some_join};
 ghost use Rattle.theory.specs.declared.step.Step.TheVariants.{Edge, Node};
+ghost use Rattle.graph.specs.Store.{unjoin_answer, after};
+ghost use Rattle.refusals.specs.Fault.{marked};
 ghost use Rattle.construction.specs.Replay.{start_answer, started, step_answer, step_after, close_from, replayed};
 ghost use Rattle.construction.specs.Law.{AcceptedExactly, AcceptedWithRoom, RefusedAtFirst, UnusedTold, StartTold};
 ghost use Rattle.construction.specs.Inner.{flagged, under_way, left, WithinUse, triangle_answer, corners, used_answer, edge_used, named_answer, node_judged, held_answer, splice_answer, spliced};
@@ -166,6 +168,16 @@ fn held<G: ReadableGraph>(graph: &G, v: u32, w: u32) -> Result<(), StoreFault>
     }
 }
 
+/// Takes the join of `v` and `w` out.
+fn take_out<G: EditableGraph>(graph: &mut G, step: usize, v: u32, w: u32) -> Result<(), AtStep>
+    ensures answer { result ≡ marked step (unjoin_answer (G.ReadableGraph.meaning graph.old) v w) }
+    ensures meant { G.ReadableGraph.meaning graph.new ≡ after (unjoin_answer (G.ReadableGraph.meaning graph.old) v w) (unjoining (G.ReadableGraph.meaning graph.old) v w) (G.ReadableGraph.meaning graph.old) }
+    ensures same { G.limit graph.new ≡ G.limit graph.old }
+{
+    at_step(step, graph.unjoin(v, w))?;
+    Ok(())
+}
+
 /// Puts table `u`, which has no joins, into the join of `v` and `w`. Of the three edits only the first can be
 /// refused, by 5, and then nothing has changed.
 fn splice<G: EditableGraph>(
@@ -184,7 +196,7 @@ fn splice<G: EditableGraph>(
 {
     at_step(step, held(graph, v, w))?;
     at_step(step, graph.join(u, v))?;
-    at_step(step, graph.unjoin(v, w))?;
+    take_out(graph, step, v, w)?;
     at_step(step, graph.join(u, w))?;
     Ok(())
 }
