@@ -1,10 +1,13 @@
 -- Whether a graph has joins, and when a join or an unjoin is accepted.
-use Rattle.std.proofs.Common.{◌≡◌, ℕ, ◌+◌, ◌<◌, ◌≤◌, true, false, not, ◌&&◌, ◌||◌, eqb, leb, Ok, sym, ap, ◌∙◌, ⊎_elim, arith}
+use Rattle.std.proofs.Common.{◌≡◌, ℕ, ◌+◌, ◌<◌, ◌≤◌, true, false, not, ◌&&◌, ◌||◌, eqb, leb, [], ◌∷◌, Ok, sym, ap, ◌∙◌, ⊎_elim, arith}
 use Rattle.std.proofs.lemmas.Bool.Decides.{nat_tests}
 use Rattle.std.proofs.lemmas.Bool.{cases_Bool, both_ways, lt-ltb, ne_eqb, lt-leb, leb-false, not-false, eqb-true, or_right}
 use Rattle.theory.specs.Graph.{Graph, Simple, same_pair, joined, joining, unjoining, is_table, size, some_join}
 use Rattle.theory.proofs.Sizes.{pairs_same, no_joins_size, joining_simple, joining_size, unjoining_size}
+use Rattle.graph.specs.First.{refused_first}
 use Rattle.graph.specs.Store.{join_answer, unjoin_answer}
+use Rattle.graph.specs.declared.fault.StoreFault.TheVariants.{NotJoined}
+use Rattle.construction.specs.Inner.{held_answer}
 use Rattle.construction.proofs.First.{past}
 
 -- ---- any join at all
@@ -57,6 +60,10 @@ join_room m c a b e =
 -- the second edit of a node step is accepted
 pub second_ok : (m : Graph) (u v w : ℕ) → v < m.tables → w < m.tables → (v ≡ w → ⊥) → m.adj v w ≡ true → unjoin_answer (joining m u v) v w ≡ Ok tt
 second_ok m u v w hv hw vw held = unjoin_ok (joining m u v) v w hv hw vw (or_right (same_pair u v v w) (m.adj v w) held)
+
+-- the join that it takes out is there
+pub second_held : (m : Graph) (u v w : ℕ) → m.adj v w ≡ true → held_answer (joining m u v) v w ≡ Ok tt
+second_held m u v w held = ap (λ j. refused_first ((not j, NotJoined v w) ∷ [])) (or_right (same_pair u v v w) (m.adj v w) held)
 
 -- the third edit of a node step finds its pair free
 pub third_free : (m : Graph) (u v w : ℕ) → (u ≡ v → ⊥) → (u ≡ w → ⊥) → (v ≡ w → ⊥) → m.adj u w ≡ false → (unjoining (joining m u v) v w).adj u w ≡ false

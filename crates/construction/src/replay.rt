@@ -3,11 +3,10 @@
 //!
 //! The inner functions are small, one for each thing that is judged or done. Those that change something say in `answer`
 //! what they answer, in `meant` what they leave (a refusal changes nothing), and in `same` that the capacity stays.
-ghost use Rattle.std.specs.Prelude.{◌≡◌, ℕ, ◌<◌, ◌≤◌, true, false, ◌≢◌};
+ghost use Rattle.std.specs.Prelude.{◌≡◌, ℕ, ◌<◌, ◌≤◌, true, false, Ok, ◌≢◌};
 ghost use Rattle.theory.specs.Graph.{joined as joins, table_count, unjoining, some_join};
 ghost use Rattle.theory.specs.declared.step.Step.TheVariants.{Edge, Node};
-ghost use Rattle.graph.specs.Store.{unjoin_answer, after};
-ghost use Rattle.refusals.specs.Fault.{marked};
+ghost use Rattle.graph.specs.Store.{unjoin_answer};
 ghost use Rattle.construction.specs.Replay.{start_answer, started, step_answer, step_after, close_from, replayed};
 ghost use Rattle.construction.specs.Law.{AcceptedExactly, AcceptedWithRoom, RefusedAtFirst, UnusedTold, StartTold};
 ghost use Rattle.construction.specs.Inner.{flagged, under_way, left, WithinUse, triangle_answer, corners, used_answer, edge_used, named_answer, node_judged, held_answer, splice_answer, spliced};
@@ -168,10 +167,12 @@ fn held<G: ReadableGraph>(graph: &G, v: u32, w: u32) -> Result<(), StoreFault>
     }
 }
 
-/// Takes the join of `v` and `w` out.
+/// Takes the join of `v` and `w` out, which is there.
 fn take_out<G: EditableGraph>(graph: &mut G, step: usize, v: u32, w: u32) -> Result<(), AtStep>
-    ensures answer { result ≡ marked step (unjoin_answer (G.ReadableGraph.meaning graph.old) v w) }
-    ensures meant { G.ReadableGraph.meaning graph.new ≡ after (unjoin_answer (G.ReadableGraph.meaning graph.old) v w) (unjoining (G.ReadableGraph.meaning graph.old) v w) (G.ReadableGraph.meaning graph.old) }
+    requires able { unjoin_answer (G.ReadableGraph.meaning graph.old) v w ≡ Ok tt }
+    requires there { held_answer (G.ReadableGraph.meaning graph.old) v w ≡ Ok tt }
+    ensures answer { result ≡ Ok tt }
+    ensures meant { G.ReadableGraph.meaning graph.new ≡ unjoining (G.ReadableGraph.meaning graph.old) v w }
     ensures same { G.limit graph.new ≡ G.limit graph.old }
 {
     at_step(step, graph.unjoin(v, w))?;

@@ -2,8 +2,9 @@
 use Rattle.std.proofs.Common.{sym, refl, ap, ◌∙◌}
 use Rattle.std.proofs.lemmas.Result.{err_from_is_err_and}
 use Rattle.theory.specs.Graph.{joining, unjoining}
-use Rattle.graph.specs.Store.{unjoin_answer}
-use Rattle.construction.proofs.Joins.{join_room, second_ok, third_ok}
+use Rattle.construction.specs.Inner.{held_answer}
+use Rattle.construction.proofs.First.{ok_err}
+use Rattle.construction.proofs.Joins.{join_room, second_ok, second_held, third_ok}
 use Rattle.construction.proofs.Inner.{passed, refused, passed_on, never, became, join_at, unjoin_at, carried, is_held, not_held, no_room, spliced_ok}
 use Rattle.construction.proofs.replay.splice.Goals as goal
 
@@ -40,8 +41,8 @@ returns-in_err-at_step-2 g c =
     record { answer = both.0; meant = both.1; same = c.join.ensures.same }
 
 -- once the first edit is accepted, so are the others
-pub returns-in_err-take_out : goal.returns-in_err-take_out
-returns-in_err-take_out g c =
+pub take_out-requires : goal.take_out-requires
+take_out-requires g c =
     let v = c.args.v in
     let w = c.args.w in
     let m = g.G.ReadableGraph.meaning c.args.graph.now in
@@ -51,10 +52,14 @@ returns-in_err-take_out g c =
     (sym c.held.ensures ∙ passed k c.held.result c.at_step.result c.at_step.ensures c.in_ok-at_step.field-0 c.in_ok-at_step.was) in
     let e₁ = became m m₁ (joining m c.args.u v) c.join.result c.join.ensures.meant
     (passed k c.join.result c.at_step-2.result c.at_step-2.ensures c.in_ok-at_step-2.field-0 c.in_ok-at_step-2.was) in
-    absurd (never k (unjoin_answer m₁ v w) c.take_out.result c.take_out.ensures.answer c.in_err-take_out.field-0.0
-    (unjoin_at (joining m c.args.u v) m₁ v w e₁
-    ∙ second_ok m c.args.u v w c.requires.tables.1.0 c.requires.tables.1.1 c.requires.apart.1.1 held)
-    c.in_err-take_out.was)
+    record {
+      able = unjoin_at (joining m c.args.u v) m₁ v w e₁
+          ∙ second_ok m c.args.u v w c.requires.tables.1.0 c.requires.tables.1.1 c.requires.apart.1.1 held;
+      there = ap (λ x. held_answer x v w) e₁ ∙ second_held m c.args.u v w held;
+    }
+
+pub returns-in_err-take_out : goal.returns-in_err-take_out
+returns-in_err-take_out g c = absurd (ok_err c.in_err-take_out.field-0.0 (sym c.take_out.ensures.answer ∙ c.in_err-take_out.was))
 
 pub returns-in_err-at_step-3 : goal.returns-in_err-at_step-3
 returns-in_err-at_step-3 g c =
@@ -70,9 +75,8 @@ returns-in_err-at_step-3 g c =
     let held = is_held m v w
     (sym c.held.ensures ∙ passed k c.held.result c.at_step.result c.at_step.ensures c.in_ok-at_step.field-0 c.in_ok-at_step.was) in
     let ok₁ = passed k c.join.result c.at_step-2.result c.at_step-2.ensures c.in_ok-at_step-2.field-0 c.in_ok-at_step-2.was in
-    let ok₂ = passed k (unjoin_answer m₁ v w) c.take_out.result c.take_out.ensures.answer c.in_ok-take_out.field-0 c.in_ok-take_out.was in
     let e₁ = became m m₁ (joining m u v) c.join.result c.join.ensures.meant ok₁ in
-    let e₂ = became m₁ m₂ (unjoining m₁ v w) (unjoin_answer m₁ v w) c.take_out.ensures.meant ok₂ in
+    let e₂ = c.take_out.ensures.meant in
     absurd (never k c.join-2.result c.at_step-3.result c.at_step-3.ensures c.in_err-at_step-3.field-0.0
     (c.join-2.ensures.answer
     ∙ join_at (unjoining (joining m u v) v w) m₂ n (g.G.EditableGraph.limit c.take_out.new.graph) u w
@@ -95,10 +99,9 @@ returns g c =
     let held = is_held m v w
     (sym c.held.ensures ∙ passed k c.held.result c.at_step.result c.at_step.ensures c.in_ok-at_step.field-0 c.in_ok-at_step.was) in
     let ok₁ = passed k c.join.result c.at_step-2.result c.at_step-2.ensures c.in_ok-at_step-2.field-0 c.in_ok-at_step-2.was in
-    let ok₂ = passed k (unjoin_answer m₁ v w) c.take_out.result c.take_out.ensures.answer c.in_ok-take_out.field-0 c.in_ok-take_out.was in
     let ok₃ = passed k c.join-2.result c.at_step-3.result c.at_step-3.ensures c.in_ok-at_step-3.field-0 c.in_ok-at_step-3.was in
     let e₁ = became m m₁ (joining m u v) c.join.result c.join.ensures.meant ok₁ in
-    let e₂ = became m₁ m₂ (unjoining m₁ v w) (unjoin_answer m₁ v w) c.take_out.ensures.meant ok₂ in
+    let e₂ = c.take_out.ensures.meant in
     let e₃ = became m₂ m₃ (joining m₂ u w) c.join-2.result c.join-2.ensures.meant ok₃ in
     record {
       answer = spliced_ok n k m u v w held (join_room m n u v (sym c.join.ensures.answer ∙ ok₁));
