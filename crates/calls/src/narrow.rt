@@ -1,6 +1,6 @@
 //! A table of bits that takes fewer joins than it has room for.
-ghost use Rattle.std.specs.Prelude.{◌≡◌, ℕ, ◌≤◌};
-ghost use Rattle.theory.specs.Graph.{size};
+ghost use Rattle.std.specs.Prelude.{◌≡◌, ℕ, min, ◌≤◌};
+ghost use Rattle.theory.specs.Graph.{size, no_joins, clamped};
 ghost use Rattle.bits.specs.Rows.{rows_graph};
 
 use bits::table::BitTable;
@@ -79,8 +79,11 @@ impl EditableGraph for Narrow {
 }
 
 impl Narrow {
-    /// A graph without joins.
-    pub fn new(tables: u32, most: u32) -> Narrow {
+    /// A graph without joins, of at most `most` joins, and of no more than a table of bits has room for.
+    pub fn new(tables: u32, most: u32) -> Narrow
+        ensures empty { rows_graph result.graph.count result.graph.rows ≡ no_joins (clamped tables) }
+        ensures narrow { result.most ≡ min most 2016 }
+    {
         Narrow {
             graph: BitTable::new(tables),
             most: most.min(2016),
