@@ -2,27 +2,18 @@
 //! X line. All that matters is in the library; here is only reading and writing.
 #![tactic(auto)]
 
-ghost use Rattle.std.specs.Prelude.{◌≡◌, ◌+◌, ◌≤◌, length, take, IfOk};
+ghost use Rattle.std.specs.Prelude.{◌+◌, ◌≤◌, length, IfOk};
 
 use assembler::assemble::{assemble_page, assemble_text};
 use programs::workspace::{PAGE, TEXT};
 use std::io;
 use std::io::{Read, Write};
-use streams::input::{read_rest, read_whole};
+use streams::input::{read_rest, read_whole, take_over};
 use theory::mark::Mark;
 use theory::step::Step;
 
 /// Memory for a text of middling length: clearing all of it for a query of some 200 joins would cost more than reading it.
 const MIDDLE: usize = 8192;
-
-/// Puts what was read into a longer text.
-fn take_over(text: &mut [u8], read: &[u8])
-    requires { length read.now ≤ length text.old }
-    ensures { take (length read.now) text.new ≡ read.now }
-{
-    let len = read.len();
-    text[0..len].copy_from_slice(read);
-}
 
 /// Reads on behind a page: how many bytes more.
 fn read_on<R: Read>(input: &mut R, text: &mut [u8]) -> io::Result<usize>
@@ -32,37 +23,42 @@ fn read_on<R: Read>(input: &mut R, text: &mut [u8]) -> io::Result<usize>
     read_whole(input, &mut text[PAGE..])
 }
 
-/// Reads on into memory for the longest text, and prints.
-fn assemble_long<R: Read, W: Write>(
-    input: &mut R,
-    output: &mut W,
-    read: &[u8; MIDDLE],
-    steps: &mut [Step; 2013],
-    marks: &mut [Mark; 63],
-) -> io::Result<()> {
-    let mut text = [0u8; TEXT];
-    take_over(&mut text, read);
-    let len = read_rest(input, &mut text, MIDDLE)?;
-    let n = assemble_text(&mut text, len, steps, marks);
-    output.write_all(&text[0..n])
+/// What the program reads from and writes to, and the memory that it lends.
+#[derive(Drop)]
+struct Run<'a, R, W> {
+    input: &'a mut R,
+    output: &'a mut W,
+    steps: &'a mut [Step; 2013],
+    marks: &'a mut [Mark; 63],
 }
 
-/// Reads on where a page was not enough, and prints.
-fn assemble_middle<R: Read, W: Write>(
-    input: &mut R,
-    output: &mut W,
-    page: &[u8; PAGE],
-    steps: &mut [Step; 2013],
-    marks: &mut [Mark; 63],
-) -> io::Result<()> {
-    let mut text = [0u8; MIDDLE];
-    take_over(&mut text, page);
-    let len = PAGE + read_on(input, &mut text)?;
-    if len >= MIDDLE {
-        return assemble_long(input, output, &text, steps, marks);
+impl<R: Read, W: Write> Run<'_, R, W> {
+    /// Prints the list, or the refusal, of the query in the first `len` bytes of the text.
+    // stays: the text is fixed memory, and the list is laid over it
+    fn print(&mut self, text: &mut [u8], len: usize) -> io::Result<()> {
+        let n = assemble_text(text, len, self.steps, self.marks);
+        self.output.write_all(&text[0..n])
     }
-    let n = assemble_text(&mut text, len, steps, marks);
-    output.write_all(&text[0..n])
+
+    /// Reads on into memory for the longest text, and prints.
+    fn long(&mut self, read: &[u8; MIDDLE]) -> io::Result<()> {
+        let mut text = [0u8; TEXT];
+        take_over(&mut text, read);
+        let len = read_rest(self.input, &mut text, MIDDLE)?;
+        self.print(&mut text, len)
+    }
+
+    /// Reads on where a page was not enough, and prints.
+    // stays: not `long` of another size: a full middling text goes on in the longest, and a full longest one drops the rest
+    fn middle(&mut self, page: &[u8; PAGE]) -> io::Result<()> {
+        let mut text = [0u8; MIDDLE];
+        take_over(&mut text, page);
+        let len = PAGE + read_on(self.input, &mut text)?;
+        if len >= MIDDLE {
+            return self.long(&text);
+        }
+        self.print(&mut text, len)
+    }
 }
 
 fn main(rt: HostRuntime) -> io::Result<()> {
@@ -74,6 +70,14 @@ fn main(rt: HostRuntime) -> io::Result<()> {
     let len = read_whole(&mut input, &mut page)?;
     match assemble_page(&mut page, len, &mut steps, &mut marks) {
         Some(n) => output.write_all(&page[0..n]),
-        None => assemble_middle(&mut input, &mut output, &page, &mut steps, &mut marks),
+        None => {
+            let mut run = Run {
+                input: &mut input,
+                output: &mut output,
+                steps: &mut steps,
+                marks: &mut marks,
+            };
+            run.middle(&page)
+        }
     }
 }

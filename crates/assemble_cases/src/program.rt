@@ -1,8 +1,14 @@
 //! The program `assemble`, from bytes to bytes. Where many graphs or long lists are compared, it is by a digest of the bytes
 //! printed: FNV-1a of 32 bits.
+//! stays: helpers with the names of those of the other program's tests; a crate between them would have to promise in public
+//! what only tests need. A text is lent with its length, as to the program.
+ghost use Rattle.std.specs.Prelude.{◌≤◌};
+
 use super::graphs::{DENSE, SPARSE};
 use assembler::assemble::assemble_text;
+use std::alloc::{AllocError, Global};
 use std::process::Abort;
+use std::test::Fail;
 use theory::mark::Mark;
 use theory::step::Step;
 
@@ -10,11 +16,10 @@ const SEED: u32 = 2166136261;
 
 /// A digest carried on over some bytes.
 fn digest(seed: u32, bytes: &[u8]) -> u32 {
-    let mut h = seed;
-    for b in bytes {
-        h = (h ^ *b as u32).wrapping_mul(16777619);
-    }
-    h
+    bytes.iter().fold(
+        seed,
+        |h, byte| (h ^ u32::from(*byte)).wrapping_mul(16777619),
+    )
 }
 
 /// Lays bytes over the text, and says where the next ones go.
@@ -25,78 +30,36 @@ fn lay(rt: &impl Abort, text: &mut [u8; 36465], at: usize, bytes: &[u8]) -> usiz
     at + len
 }
 
-/// A digit of a number, or a blank where the number has none there: `unit` is 1, 10, 100 or 1,000.
-fn digit(n: usize, unit: usize) -> u8 {
-    if unit == 0 || (n < unit && unit != 1) {
-        32
-    } else {
-        48 + (n / unit % 10) as u8
-    }
-}
-
 /// A G line.
-fn head(tables: usize, joins: usize) -> [u8; 17] {
-    [
-        71,
-        32,
-        32,
-        32,
-        digit(tables, 10),
-        digit(tables, 1),
-        32,
-        digit(joins, 1000),
-        digit(joins, 100),
-        digit(joins, 10),
-        digit(joins, 1),
-        32,
-        32,
-        32,
-        32,
-        32,
-        10,
-    ]
+fn head(alloc: Global, tables: usize, joins: usize) -> Result<String, AllocError> {
+    format!(in alloc; "G{tables:>5}{joins:>5}     \n")
 }
 
 /// A J line.
-fn join(v: usize, w: usize) -> [u8; 17] {
-    [
-        74,
-        32,
-        32,
-        32,
-        32,
-        32,
-        32,
-        32,
-        32,
-        digit(v, 10),
-        digit(v, 1),
-        32,
-        32,
-        32,
-        digit(w, 10),
-        digit(w, 1),
-        10,
-    ]
+fn join(alloc: Global, v: usize, w: usize) -> Result<String, AllocError> {
+    format!(in alloc; "J{v:>10}{w:>5}\n")
+}
+
+/// Lays what is printed for the query in the first `len` bytes over the text, and says how many bytes that is.
+fn assembled(text: &mut [u8; 36465], len: usize) -> usize
+    ensures { result ≤ 36465 }
+{
+    let mut steps = [Step::Edge { v: 0, w: 0 }; 2013];
+    let mut marks = [Mark { v: 0, w: 0 }; 63];
+    assemble_text(text, len, &mut steps, &mut marks)
 }
 
 /// The digest of what is printed for the query in the first `len` bytes.
-fn printed(rt: &impl Abort, text: &mut [u8; 36465], len: usize, seed: u32) -> u32 {
-    let mut steps = [Step::Edge { v: 0, w: 0 }; 2013];
-    let mut marks = [Mark { v: 0, w: 0 }; 63];
-    let n = assemble_text(text, len, &mut steps, &mut marks);
-    assert!(rt; n <= 36465);
+fn printed(text: &mut [u8; 36465], len: usize, seed: u32) -> u32 {
+    let n = assembled(text, len);
     digest(seed, &text[0..n])
 }
 
 /// Whether the program prints `expected` for a query.
 fn prints(rt: &impl Abort, query: &[u8], expected: &[u8]) {
     let mut text = [0u8; 36465];
-    let mut steps = [Step::Edge { v: 0, w: 0 }; 2013];
-    let mut marks = [Mark { v: 0, w: 0 }; 63];
     let len = lay(rt, &mut text, 0, query);
-    let n = assemble_text(&mut text, len, &mut steps, &mut marks);
-    assert!(rt; n <= 36465);
+    let n = assembled(&mut text, len);
     assert_eq!(rt; &text[0..n], expected);
 }
 
@@ -209,82 +172,93 @@ fn refusals(rt: HostRuntime) {
 
 /// The query of the graph in which just the pairs that are set in `mask` are joined, the pairs counted by the higher table and
 /// then by the lower.
-fn masked(rt: &impl Abort, text: &mut [u8; 36465], tables: usize, mask: u32) -> usize {
+fn masked(
+    rt: &(impl Abort + AllocGlobal),
+    text: &mut [u8; 36465],
+    tables: usize,
+    mask: u32,
+) -> Result<usize, AllocError> {
+    let first = head(rt.alloc(), tables, mask.count_ones() as usize)?;
+    let mut at = lay(rt, text, 0, first.as_bytes());
     let mut rest = mask;
-    let mut joins = 0usize;
-    for _pair in 0..10usize {
-        if rest % 2 == 1 {
-            joins = joins.saturating_add(1);
-        }
-        rest /= 2;
-    }
-    let mut at = lay(rt, text, 0, &head(tables, joins));
-    rest = mask;
     for w in 0..tables {
         for v in 0..w {
             if rest % 2 == 1 {
-                at = lay(rt, text, at, &join(v, w));
+                at = lay(rt, text, at, join(rt.alloc(), v, w)?.as_bytes());
             }
             rest /= 2;
         }
     }
-    at
+    Ok(at)
 }
 
 /// All graphs of up to five tables.
 #[test]
-fn all_small_graphs(rt: HostRuntime) {
+fn all_small_graphs(rt: HostRuntime) -> Result<(), Fail> {
     let mut text = [0u8; 36465];
-    let graphs = [1u32, 2, 8, 64, 1024];
-    let expected = [2890092030u32, 236826823, 2297000897, 3425942729, 3171583343];
-    for i in 0..5usize {
+    let cases = [
+        (1usize, 1u32, 2890092030u32),
+        (2, 2, 236826823),
+        (3, 8, 2297000897),
+        (4, 64, 3425942729),
+        (5, 1024, 3171583343),
+    ];
+    for (tables, graphs, expected) in cases {
         let mut seed = SEED;
-        for mask in 0..graphs[i] {
-            let len = masked(&rt, &mut text, i + 1, mask);
-            seed = printed(&rt, &mut text, len, seed);
+        for mask in 0..graphs {
+            let len = masked(&rt, &mut text, tables, mask)?;
+            seed = printed(&mut text, len, seed);
         }
-        assert_eq!(rt; seed, expected[i]);
+        assert_eq!(rt; seed, expected);
     }
+    Ok(())
 }
 
 /// The complete graph of 64 tables, and the ring.
 #[test]
-fn complete_graph_and_ring(rt: HostRuntime) {
+fn complete_graph_and_ring(rt: HostRuntime) -> Result<(), Fail> {
     let mut text = [0u8; 36465];
-    let mut at = lay(&rt, &mut text, 0, &head(64, 2016));
+    let first = head(rt.alloc(), 64, 2016)?;
+    let mut at = lay(&rt, &mut text, 0, first.as_bytes());
     for w in 0..64usize {
         for v in 0..w {
-            at = lay(&rt, &mut text, at, &join(v, w));
+            at = lay(&rt, &mut text, at, join(rt.alloc(), v, w)?.as_bytes());
         }
     }
-    assert_eq!(rt; printed(&rt, &mut text, at, SEED), 2791982236);
-    at = lay(&rt, &mut text, 0, &head(64, 64));
+    assert_eq!(rt; printed(&mut text, at, SEED), 2791982236);
+    let other = head(rt.alloc(), 64, 64)?;
+    at = lay(&rt, &mut text, 0, other.as_bytes());
     for v in 0..64usize {
-        at = lay(&rt, &mut text, at, &join(v, (v + 1) % 64));
+        let line = join(rt.alloc(), v, (v + 1) % 64)?;
+        at = lay(&rt, &mut text, at, line.as_bytes());
     }
-    assert_eq!(rt; printed(&rt, &mut text, at, SEED), 4088684160);
+    assert_eq!(rt; printed(&mut text, at, SEED), 4088684160);
+    Ok(())
 }
 
 /// The query of a graph given by the tables of its joins.
-fn listed(rt: &impl Abort, text: &mut [u8; 36465], joins: &[u8]) -> usize {
-    let mut at = lay(rt, text, 0, &head(64, joins.len() / 2));
-    for i in 0..joins.len() / 2 {
-        at = lay(
-            rt,
-            text,
-            at,
-            &join(joins[2 * i] as usize, joins[2 * i + 1] as usize),
-        );
+fn listed(
+    rt: &(impl Abort + AllocGlobal),
+    text: &mut [u8; 36465],
+    tables: &[u8],
+) -> Result<usize, AllocError> {
+    let joins = tables.as_chunks::<2>().0;
+    let first = head(rt.alloc(), 64, joins.len())?;
+    let mut at = lay(rt, text, 0, first.as_bytes());
+    for [v, w] in joins {
+        let line = join(rt.alloc(), usize::from(*v), usize::from(*w))?;
+        at = lay(rt, text, at, line.as_bytes());
     }
-    at
+    Ok(at)
 }
 
 /// Two random graphs.
 #[test]
-fn random_graphs(rt: HostRuntime) {
+fn random_graphs(rt: HostRuntime) -> Result<(), Fail> {
     let mut text = [0u8; 36465];
-    let mut len = listed(&rt, &mut text, &SPARSE);
-    assert_eq!(rt; printed(&rt, &mut text, len, SEED), 2494723983);
-    len = listed(&rt, &mut text, &DENSE);
-    assert_eq!(rt; printed(&rt, &mut text, len, SEED), 2523006443);
+    let mut len = listed(&rt, &mut text, &SPARSE)?;
+    assert_eq!(rt; printed(&mut text, len, SEED), 2494723983);
+    len = listed(&rt, &mut text, &DENSE)?;
+    assert_eq!(rt; printed(&mut text, len, SEED), 2523006443);
+    Ok(())
 }

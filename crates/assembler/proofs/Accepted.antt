@@ -91,8 +91,8 @@ module _ (text : List ℕ) (steps : List Step) (marks : List Mark) where
         number = omega (arith, many);
         laid = sym (ap (take (size m - 3)) (build_kept text steps marks h read m (sym is))) ∙ t.steps;
       }
-  accepted_by m (Ok h) (Err f) read built e = let z : ◌≡◌ {A = ℕ} 0 1 = cc in absurd (omega arith)
-  accepted_by m (Err f) r read built e = let z : ◌≡◌ {A = ℕ} 0 1 = cc in absurd (omega arith)
+  accepted_by m (Ok h) (Err f) read built e = cc
+  accepted_by m (Err f) r read built e = cc
 
   pub accepted : (m : Graph) → assemble_told text steps marks ≡ Ok m → Accepted m
   unfolding assemble_told
@@ -101,8 +101,8 @@ module _ (text : List ℕ) (steps : List Step) (marks : List Mark) where
 -- a list that was given is that of the graph told
 pub listed_back : (r : Result Graph ProgramFault) (q : Listed) → Ok q ≡ listed r → (m : Graph) × (r ≡ Ok m) × (q ≡ listed_of m)
 listed_back (Ok m) q e = (m, refl, (let g : q ≡ listed_of m = cc in g))
-listed_back (Err f) q e = let z : ◌≡◌ {A = ℕ} 0 1 = cc in absurd (omega arith)
+listed_back (Err f) q e = cc
 
 pub refused_back : (r : Result Graph ProgramFault) (f : ProgramFault) → Err f ≡ listed r → r ≡ Err f
-refused_back (Ok m) f e = let z : ◌≡◌ {A = ℕ} 0 1 = cc in absurd (omega arith)
+refused_back (Ok m) f e = cc
 refused_back (Err g) f e = let same : g ≡ f = cc in ap (λ x. Err x) same

@@ -132,7 +132,7 @@ module _ (text : List ℕ) (steps : List Step) (marks : List Mark) (records : le
 
   refused_by : (f : ProgramFault) (q : Result QueryHead QueryFault) (r : Result Built BuildFault) → (query_in text marks).told ≡ q → build_answer (query_in text marks).graph (length steps) ≡ r
       → query_then q (build_last r (query_in text marks).graph) ≡ Err f → fault_place f ≤ 99999 → RefusesQuery text (printed (Err f)) ⊎ RefusesBuild text (printed (Err f))
-  refused_by f (Ok h) (Ok b) read built e near = let z : ◌≡◌ {A = ℕ} 0 1 = cc in absurd (omega arith)
+  refused_by f (Ok h) (Ok b) read built e near = cc
   refused_by f (Ok h) (Err g) read built e near =
       let same : Build g ≡ f = cc in
       subst (λ x. RefusesQuery text (printed (Err x)) ⊎ RefusesBuild text (printed (Err x))) same

@@ -26,7 +26,7 @@ use Rattle.assembler.specs.declared.assemble.Listed.{Listed}
 -- what is given is the list of the graph
 pub given_is : (r : Result Unit BuildFault) (m : Graph) (b : Built) → built_after r m ≡ Ok b → b ≡ built_of m
 given_is (Ok u) m b e = cc
-given_is (Err f) m b e = let z : ◌≡◌ {A = ℕ} 0 1 = cc in absurd (omega arith)
+given_is (Err f) m b e = cc
 
 module _ (text : List ℕ) (steps : List Step) (marks : List Mark) where
   abbrev then_built : Result Graph ProgramFault

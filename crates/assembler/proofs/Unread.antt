@@ -19,6 +19,7 @@ use Rattle.catalogue.specs.declared.fault.RowFault.TheVariants as row-faults
 use Rattle.lines.specs.Form.{Longest}
 use Rattle.lines.specs.Read.{line_at}
 use Rattle.lines.specs.Text.{line_text}
+use Rattle.lines.specs.declared.line.BadByte.{BadByte}
 use Rattle.lines.specs.declared.line.Fields.{Fields}
 use Rattle.lines.specs.declared.line.Fields.TheVariants.{LastTwo, FirstTwo, Counted}
 use Rattle.lines.specs.declared.line.Line.{Line}
@@ -31,13 +32,14 @@ use Rattle.queries.specs.QueryRead.{outside_limits}
 use Rattle.queries.specs.QueryLaw.{head_line, join_line, mark_line, row_line, join_text, mark_text, row_text, query_text, lines_graph, Due, NothingOwed, GoodHead, GoodJoin, GoodRow, place_after, Begun, headed, joined_by, marked_by, counted_by, HeadAmiss, Amiss}
 use Rattle.rejections.specs.declared.fault.QueryFault.{QueryFault}
 use Rattle.rejections.specs.declared.fault.QueryFault.TheVariants.{Text, Join, Row}
-use Rattle.queries.proofs.Whole.{here_inside, begun_inside}
+use Rattle.texts.proofs.Near.{here_inside}
+use Rattle.queries.proofs.Whole.{begun_inside}
 use Rattle.assembler.specs.AssembleLaw.{IsQuery, LineAmiss}
 use Rattle.assembler.proofs.Begun.{begun_simple}
 
 -- ---- one line
 
-one_line : (l k : Line) → ◌≡◌ {A = Result Line ℕ} (Ok l) (Ok k) → l ≡ k
+one_line : (l k : Line) → ◌≡◌ {A = Result Line BadByte} (Ok l) (Ok k) → l ≡ k
 one_line l k e = cc
 
 -- one line stands at a place
@@ -101,10 +103,10 @@ row_good n r g =
     ∙ passes (out_of_range r.1) (row-faults.OutOfRange r.0 r.1) _ g.in_range
 
 no_store_fault : (f : StoreFault) → ◌≡◌ {A = Result Unit StoreFault} (Ok tt) (Err f) → ⊥
-no_store_fault f e = let z : ◌≡◌ {A = ℕ} 0 1 = cc in omega arith
+no_store_fault f e = cc
 
 no_row_fault : (f : RowFault) → ◌≡◌ {A = Result Unit RowFault} (Ok tt) (Err f) → ⊥
-no_row_fault f e = let z : ◌≡◌ {A = ℕ} 0 1 = cc in omega arith
+no_row_fault f e = cc
 
 -- ---- lines, one after another
 

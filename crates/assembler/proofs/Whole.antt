@@ -44,7 +44,7 @@ same_graph : (m k : Graph) → ◌≡◌ {A = Result Graph ProgramFault} (Ok m) 
 same_graph m k e = cc
 
 no_graph : (f : ProgramFault) (m : Graph) → ◌≡◌ {A = Result Graph ProgramFault} (Err f) (Ok m) → ⊥
-no_graph f m e = let z : ◌≡◌ {A = ℕ} 0 1 = cc in omega arith
+no_graph f m e = cc
 
 -- a list that is given is shown
 shown_list : (text : List ℕ) (len : ℕ) (steps : List Step) (marks : List Mark) (m : Graph) → Accepted (looked_at text len) steps marks m → shown (length text) (Ok m) ≡ printed (Ok m)
@@ -87,44 +87,43 @@ module _ (text : List ℕ) (len : ℕ) (steps : List Step) (marks : List Mark) w
     found = accepted (looked_at text len) steps marks graph_of told_is
 
     -- the records that are lent on are the list's steps
-    steps_are : take (q.steps - 0) steps' ≡ (list_of graph_of).steps
+    steps_are : take q.steps steps' ≡ (list_of graph_of).steps
     steps_are =
-        ap (λ k. take k steps') (omega arith)
-        ∙ ap (λ (x : Listed). take x.steps steps') q_is
+        ap (λ (x : Listed). take x.steps steps') q_is
         ∙ ap (take (size graph_of - 3)) filled
         ∙ found.laid
 
     pub steps_within : q.steps ≤ length steps'
     steps_within =
         let n : q.steps ≡ size graph_of - 3 = ap (λ (x : Listed). x.steps) q_is in
-        let k : length (take (q.steps - 0) steps') ≡ length (list_of graph_of).steps = ap length steps_are in
-        let cut = length-take (q.steps - 0) steps' in
+        let k : length (take q.steps steps') ≡ length (list_of graph_of).steps = ap length steps_are in
+        let cut = length-take q.steps steps' in
         omega (arith, n, k, cut, found.number)
 
-    pub list_able : Listable q.tables q.triangle (take (q.steps - 0) steps')
+    pub list_able : Listable q.tables q.triangle (take q.steps steps')
     list_able =
-        subst (λ (x : Listed). Listable x.tables x.triangle (take (q.steps - 0) steps')) (sym q_is)
+        subst (λ (x : Listed). Listable x.tables x.triangle (take q.steps steps')) (sym q_is)
         (subst (λ l. Listable (table_count graph_of) (list_of graph_of).triangle l) (sym steps_are) found.able)
 
-    pub list_fits : list_length (take (q.steps - 0) steps') ≤ length text
-    list_fits = let k : length (take (q.steps - 0) steps') ≡ length (list_of graph_of).steps = ap length steps_are in omega (arith, k, found.room, looked_most text len)
+    pub list_fits : list_length (take q.steps steps') ≤ length text
+    list_fits = let k : length (take q.steps steps') ≡ length (list_of graph_of).steps = ap length steps_are in omega (arith, k, found.room, looked_most text len)
 
-    list_is : list_text q.tables q.triangle (take (q.steps - 0) steps') ≡ printed (Ok graph_of)
+    list_is : list_text q.tables q.triangle (take q.steps steps') ≡ printed (Ok graph_of)
     list_is =
-        ap (λ (x : Listed). list_text x.tables x.triangle (take (q.steps - 0) steps')) q_is
+        ap (λ (x : Listed). list_text x.tables x.triangle (take q.steps steps')) q_is
         ∙ ap (λ l. list_text (table_count graph_of) (list_of graph_of).triangle l) steps_are
 
-    text_is : list_text q.tables q.triangle (take (q.steps - 0) steps') ≡ shown (length text) (assemble_told (looked_at text len) steps marks)
+    text_is : list_text q.tables q.triangle (take q.steps steps') ≡ shown (length text) (assemble_told (looked_at text len) steps marks)
     text_is =
         list_is
         ∙ sym (shown_list text len steps marks graph_of found)
         ∙ sym (ap (λ r. shown (length text) r) told_is)
 
     pub done_listed : (marks' : List Mark) (r : ℕ) (text' : List ℕ) → marks' ≡ (query_in (looked_at text len) marks).marks
-        → r ≡ list_length (take (q.steps - 0) steps') → text' ≡ laid text 0 (list_text q.tables q.triangle (take (q.steps - 0) steps'))
+        → r ≡ list_length (take q.steps steps') → text' ≡ laid text 0 (list_text q.tables q.triangle (take q.steps steps'))
         → length steps ≡ 2013 → length marks ≡ 63 → Assembled text len steps marks r text' steps' marks'
     done_listed marks' r text' marked count lies records lent =
-        let lay = take (q.steps - 0) steps' in
+        let lay = take q.steps steps' in
         let bytes = list_text_length q.tables q.triangle lay in
         let long : length text' ≡ length text = ap length lies ∙ laid_length text 0 (list_text q.tables q.triangle lay) in
         let out : take r text' ≡ printed (Ok graph_of) =

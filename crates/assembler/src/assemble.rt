@@ -1,10 +1,10 @@
 //! The program `assemble`: a query's text in, the build list of its graph out, or the line of a refusal.
-ghost use Rattle.std.specs.Prelude.{◌≡◌, ◌≤◌, length, IfErr, Err};
+ghost use Rattle.std.specs.Prelude.{◌≡◌, ◌≤◌, length, IfErr};
 ghost use Rattle.writer.specs.Laid.{laid};
 ghost use Rattle.texts.specs.ListText.{list_text, Listable};
 ghost use Rattle.texts.specs.ListWrite.{list_length};
 ghost use Rattle.outcomes.specs.Fault.{fault_place};
-ghost use Rattle.assembler.specs.Assemble.{query_in, assemble_told, steps_left, listed, shown};
+ghost use Rattle.assembler.specs.Assemble.{query_in, assemble_told, steps_left, listed};
 ghost use Rattle.assembler.specs.Assembled.{Assembled, Paged};
 
 use assembly::build::build;
@@ -12,7 +12,8 @@ use bits::table::BitTable;
 use catalogue::catalogue::Catalogue;
 use graph::graph::ReadableGraph;
 use outcomes::fault::ProgramFault;
-use prints::refusal::write_refusal;
+use programs::refusal::lay_refusal;
+use programs::workspace::TEXT;
 use queries::query::read_query;
 use texts::list_write::write_list;
 use theory::mark::Mark;
@@ -46,32 +47,19 @@ fn assembled(text: &[u8], steps: &mut [Step], marks: &mut [Mark]) -> Result<List
 }
 
 /// A list's text, laid over the text.
+// stays: the parts of a list as `write_list` takes them; its steps lie in lent records, so no value has them all
 fn lay_list(tables: u32, triangle: Triangle, steps: &[Step], text: &mut [u8]) -> usize
     requires able { Listable tables triangle steps.now }
     requires room { list_length steps.now ≤ length text.old }
     ensures count { result ≡ list_length steps.now }
     ensures laid { text.new ≡ laid text.old 0 (list_text tables triangle steps.now) }
 {
-    match write_list(text, tables, triangle, steps) {
-        Ok(n) => n,
-        Err(_) => 0,
-    }
-}
-
-/// The line of a refusal, laid over the text, or nothing where it has no room.
-fn lay_refusal(fault: ProgramFault, text: &mut [u8]) -> usize
-    requires { fault_place fault ≤ 99999 }
-    ensures count { result ≡ length (shown (length text.old) (Err fault)) }
-    ensures laid { text.new ≡ laid text.old 0 (shown (length text.old) (Err fault)) }
-{
-    match write_refusal(text, fault.number(), fault.layer(), fault.place() as u32) {
-        Ok(n) => n,
-        Err(_) => 0,
-    }
+    write_list(text, tables, triangle, steps).unwrap_or(0)
 }
 
 /// Takes the first `len` bytes of the text as what was read, and lays what is to be printed over the text's first bytes; the
 /// answer is how many these are.
+// stays: the text and a length apart, what is printed lies over the same memory, past what was read, too
 pub fn assemble_text(
     text: &mut [u8],
     len: usize,
@@ -83,17 +71,18 @@ pub fn assemble_text(
     // that taking the graph apart gives, and it serves as the graph's key
     ensures { Assembled text.old len steps.old marks.old result text.new steps.new marks.new }
 {
-    let len = len.min(text.len()).min(36465);
-    match assembled(&text[0..len], steps, marks) {
+    let len = len.min(text.len()).min(TEXT);
+    match assembled(&text[..len], steps, marks) {
         Ok(list) => {
             let count = list.steps;
-            lay_list(list.tables, list.triangle, &steps[0..count], text)
+            lay_list(list.tables, list.triangle, &steps[..count], text)
         }
         Err(fault) => lay_refusal(fault, text),
     }
 }
 
 /// The same in a page, where all of the input fits into it; none, and nothing changed, where more may follow.
+// stays: apart from `replay_page`: a function over both would take the limit and the program, and is longer than the two
 pub fn assemble_page(
     page: &mut [u8; 4096],
     len: usize,

@@ -7,7 +7,7 @@ use Rattle.theory.specs.declared.step.Step.{Step}
 use Rattle.theory.specs.declared.step.Triangle.{Triangle}
 use Rattle.theory.proofs.Sizes.{no_joins_simple}
 use Rattle.construction.specs.Replay.{replayed}
-use Rattle.construction.proofs.Laws.{accepted_exactly, accepted_with_room}
+use Rattle.construction.proofs.Laws as construction
 use Rattle.disassembly.specs.Disassembly.{Disassembly}
 use Rattle.disassembly.specs.Laws.{Fit}
 use Rattle.disassembly.proofs.Corners.{build_fit}
@@ -136,29 +136,34 @@ module _ (m : Graph) (s : Simple m) (l : List Step) where
       let k = take b.steps (records_after m l) in
       let clear : Simple (no_joins n) = no_joins_simple n s.some s.few in
       let long : 3 + length k ≤ c = omega (arith, ap length t.steps, fit_size m s t.fit) in
-      let told' : (replayed c (no_joins n) b.triangle k).told ≡ Ok tt =
-      (accepted_with_room c (no_joins n) b.triangle k clear (replayed c (no_joins n) b.triangle k).told (replayed c (no_joins n) b.triangle k).graph refl refl refl long).1
-      (m, refl, legal_there b t) in
-      let built : LegalBuild (replayed c (no_joins n) b.triangle k).graph b.triangle k =
-      (accepted_exactly c (no_joins n) b.triangle k clear (replayed c (no_joins n) b.triangle k).told (replayed c (no_joins n) b.triangle k).graph refl refl refl).0 told' in
+      let laws = construction.told_laws c (no_joins n) b.triangle k clear (replayed c (no_joins n) b.triangle k).told (replayed c (no_joins n) b.triangle k).graph refl refl in
+      let told' : (replayed c (no_joins n) b.triangle k).told ≡ Ok tt = (laws.room refl long).1 (m, refl, legal_there b t) in
+      let built : LegalBuild (replayed c (no_joins n) b.triangle k).graph b.triangle k = (laws.accepted refl).0 told' in
       (told', one_graph (replayed c (no_joins n) b.triangle k).graph m b.triangle k built (legal_there b t))
+
+-- what a call answers and leaves, and what this amounts to
+pub record ToldLaws (m : Graph) (l : List Step) (r : Result Built BuildFault) (l' : List Step) : Type 0 where
+  pub answer : r ≡ build_answer m (length l)
+  pub filled : l' ≡ records_after m l
+  pub listed : ListGiven m r l'
+  pub legal : LegalGiven m r l'
+  pub refused : RefusedExactly m r
+  pub named : Named m (length l) r
+  pub plays : PlaysBack m r l'
 
 -- the same of what a call answers and leaves
 module _ (m : Graph) (s : Simple m) (l : List Step) (r : Result Built BuildFault) (l' : List Step) (answer : r ≡ build_answer m (length l)) (filled : l' ≡ records_after m l) where
   moved : (P : Result Built BuildFault → List Step → Type 0) → P (build_answer m (length l)) (records_after m l) → P r l'
   moved P h = subst (λ x. P x l') (sym answer) (subst (λ k. P (build_answer m (length l)) k) (sym filled) h)
 
-  pub told_list : ListGiven m r l'
-  told_list = moved (ListGiven m) (list_given m s l)
-
-  pub told_legal : LegalGiven m r l'
-  told_legal = moved (LegalGiven m) (legal_given m s l)
-
-  pub told_refused : RefusedExactly m r
-  told_refused = moved (λ x _. RefusedExactly m x) (refused_exactly m s l)
-
-  pub told_named : Named m (length l) r
-  told_named = moved (λ x _. Named m (length l) x) (named m s l)
-
-  pub told_plays : PlaysBack m r l'
-  told_plays = moved (PlaysBack m) (plays_back m s l)
+  -- all that the clauses of a call owe of them
+  pub told_laws : ToldLaws m l r l'
+  told_laws = record {
+    answer = answer;
+    filled = filled;
+    listed = moved (ListGiven m) (list_given m s l);
+    legal = moved (LegalGiven m) (legal_given m s l);
+    refused = moved (λ x _. RefusedExactly m x) (refused_exactly m s l);
+    named = moved (λ x _. Named m (length l) x) (named m s l);
+    plays = moved (PlaysBack m) (plays_back m s l);
+  }

@@ -5,7 +5,7 @@ use Rattle.std.proofs.lemmas.Bool.{cases_eq, eq-eqb, ne_eqb}
 use Rattle.theory.specs.Graph.{Graph, is_table, joined, table_count, size}
 use Rattle.bits.specs.Rows.{bit}
 use Rattle.bits.proofs.Bit.{zero_bit}
-use Rattle.bits.proofs.Lowest.{none_below, set_at, some_set}
+use Rattle.bits.proofs.Lowest.{lowest_below, lowest_bit}
 use Rattle.disassembly.specs.Search.{lowest_from}
 use Rattle.disassembly.specs.Reach.{reached, separates, lowest_unreached, lowest_separating}
 use Rattle.disassembly.proofs.Members.{lowest_is, none_is}
@@ -21,11 +21,12 @@ pub lowest_bits : (w : ℕ) → w < 2 ^ 64 → (p : ℕ → Bool) → ((x : ℕ)
 lowest_bits w h p same = ⊎_elim
     (λ (e : w ≡ 0). ap (λ b. cond b None (Some (count_trailing_zeros 64 w))) (eq-eqb w 0 e)
     ∙ sym (none_is 0 64 p (λ x _ _. sym (same x) ∙ ap (λ v. bit v x) e ∙ zero_bit x)))
-    (λ ne. let some : 0 < w = omega (arith, ne) in
-    let below : count_trailing_zeros 64 w < 64 = some_set 64 w h some in
+    (λ ne.
+    let some : 0 < w = omega (arith, ne) in
+    let lowest = lowest_bit w h some in
     ap (λ b. cond b None (Some (count_trailing_zeros 64 w))) (ne_eqb w 0 ne)
     ∙ sym (lowest_is 0 64 p (count_trailing_zeros 64 w)
-    (record { holds = sym (same (count_trailing_zeros 64 w)) ∙ set_at 64 w below; above = omega arith; none = λ j _ l. sym (same j) ∙ none_below 64 w j l }) below))
+    (record { holds = sym (same (count_trailing_zeros 64 w)) ∙ lowest.holds; above = lowest.above; none = λ j a l. sym (same j) ∙ lowest.none j a l }) (lowest_below w h some)))
     (cases_eq w 0)
 
 -- what comes after a table that is named does not matter

@@ -3,7 +3,7 @@
 --   from_zero           a survey from table 0
 --   judged_so           the judgement told is that of the graph
 --   refused_so, given_so   what is answered and left where it refuses, and where the list is laid
-use Rattle.std.proofs.Common.{◌≡◌, ℕ, ◌-◌, ◌<◌, ◌≤◌, min, List, ◌++◌, length, drop, Ok, Err, Result, sym, ap, ◌∙◌, subst, arith}
+use Rattle.std.proofs.Common.{◌≡◌, ℕ, ◌-◌, ◌<◌, ◌≤◌, min, List, length, Ok, Err, Result, sym, ap, ◌∙◌, subst, arith}
 use Rattle.theory.specs.Graph.{Graph, Simple, is_table, joined, table_count, size}
 use Rattle.theory.specs.declared.step.Step.{Step}
 use Rattle.theory.specs.declared.step.Triangle.{Triangle}
@@ -12,7 +12,7 @@ use Rattle.refusals.specs.declared.build.BuildFault.{BuildFault}
 use Rattle.traversal.specs.Survey.{Surveys}
 use Rattle.traversal.specs.declared.survey.Survey.{Survey}
 use Rattle.assembly.specs.declared.build.Built.{Built}
-use Rattle.assembly.specs.Build.{list_of, build_judged, built_of, built_after, build_answer, records_given, records_after}
+use Rattle.assembly.specs.Build.{list_of, laid_over, build_judged, built_of, built_after, build_answer, records_given, records_after}
 use Rattle.verdicts.specs.Judge.{masks_judged}
 use Rattle.assembly.proofs.Masked.{masks_are}
 use Rattle.assembly.proofs.Verdict.{fit_size, Verdict, judged}
@@ -48,11 +48,11 @@ module _ (m k : Graph) (copied : k ≡ m) (found : Survey) (h : Surveys k 0 foun
       omega (arith, fit_size k s v.0, v.1)
 
   pub given_so : (t : Triangle) (l l' : List Step) → length l ≡ room → r ≡ Ok tt
-      → t ≡ (list_of k).triangle → l' ≡ (list_of k).steps ++ drop (length (list_of k).steps) l
+      → t ≡ (list_of k).triangle → l' ≡ laid_over (list_of k) l
       → (Ok (record { triangle = t; steps = steps }) ≡ build_answer m (length l)) × (l' ≡ records_after m l)
   given_so t l l' e was corner laid =
       let j : build_judged m (length l) ≡ Ok tt = ap (build_judged m) e ∙ sym judged_so ∙ was in
       let b : (record { triangle = t; steps = steps }) ≡ built_of m = (λ i. record { triangle = corner i; steps = steps_are i }) ∙ ap built_of copied in (
         ap Ok b ∙ sym (ap (λ x. built_after x m) j),
-        laid ∙ ap (λ g. (list_of g).steps ++ drop (length (list_of g).steps) l) copied ∙ sym (ap (λ x. records_given x (list_of m) l) j),
+        laid ∙ ap (λ g. laid_over (list_of g) l) copied ∙ sym (ap (λ x. records_given x (list_of m) l) j),
       )

@@ -1,13 +1,13 @@
 //! The build request: the list of steps by which a graph is built, laid into records that the caller lends.
-ghost use Rattle.std.specs.Prelude.{◌≡◌, ℕ, ◌-◌, ◌≤◌, ◌++◌, length, drop, nat_lt};
-ghost use Rattle.bits.specs.Rows.{bit, rows_graph};
+ghost use Rattle.std.specs.Prelude.{◌≡◌, ◌≤◌, length};
+ghost use Rattle.bits.specs.Table.{graph_of};
 ghost use Rattle.traversal.specs.Survey.{Surveys};
-ghost use Rattle.assembly.specs.Build.{list_of, build_answer, records_after};
+ghost use Rattle.assembly.specs.Build.{list_in, laid_over, build_answer, records_after};
 ghost use Rattle.assembly.specs.BuildLaw.{ListGiven, LegalGiven, RefusedExactly, Named, PlaysBack};
 
 use bits::table::BitTable;
 use graph::graph::ReadableGraph;
-use notes::notes::lay_list;
+use notes::notes::{Part, lay_list};
 use refusals::build::BuildFault;
 use theory::step::{Step, Triangle};
 use traversal::survey::Survey;
@@ -21,31 +21,18 @@ pub struct Built {
     pub steps: usize,
 }
 
-/// All of the tables of a graph, as bits.
-fn all_tables(tables: u32) -> u64
-    requires { (1 ≤ tables) × (tables ≤ 64) }
-    ensures { (x : ℕ) → bit result x ≡ nat_lt x tables }
-{
-    u64::MAX >> (64 - tables)
-}
-
 /// Lays the list of a graph that was surveyed into the records.
 fn lay(graph: &BitTable, found: &Survey, records: &mut [Step]) -> Triangle
-    requires surveyed { Surveys (rows_graph graph.now.count graph.now.rows) 0 found.now }
-    requires room { length (list_of (rows_graph graph.now.count graph.now.rows)).steps ≤ length records.old }
-    ensures triangle { result ≡ (list_of (rows_graph graph.now.count graph.now.rows)).triangle }
-    ensures steps { records.new ≡ (list_of (rows_graph graph.now.count graph.now.rows)).steps ++ drop (length (list_of (rows_graph graph.now.count graph.now.rows)).steps) records.old }
+    requires surveyed { Surveys (graph_of graph.now) 0 found.now }
+    requires room { length (list_in graph.now).steps ≤ length records.old }
+    ensures triangle { result ≡ (list_in graph.now).triangle }
+    ensures steps { records.new ≡ laid_over (list_in graph.now) records.old }
 {
-    let tables = all_tables(graph.tables());
-    lay_list(
-        graph.rows(),
-        tables,
-        &found.left,
-        found.count,
-        &found.parents,
-        &found.numbers,
-        records,
-    )
+    let part = Part {
+        tables: graph.all_tables(),
+        rows: graph.rows(),
+    };
+    lay_list(part, found, records)
 }
 
 /// Gives the build list of a graph: the triangle and the number of steps are answered, and the steps fill the first records. The

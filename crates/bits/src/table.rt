@@ -1,8 +1,9 @@
 //! The table of bits: for each table one 64-bit row, in which bit `b` is set where it is joined with table `b`.
-ghost use Rattle.std.specs.Prelude.{◌≡◌, ℕ, ◌<◌, ◌≤◌, true, false, ◌≢◌};
-ghost use Rattle.std.proofs.Common.{lit≤};
-ghost use Rattle.theory.specs.Graph.{size, joining, no_joins, clamped};
-ghost use Rattle.bits.specs.Rows.{rows_graph};
+//! stays: two tables, or a table and a bound, are two arguments, as in the traits; a pair would be made and unmade at each call.
+ghost use Rattle.std.specs.Prelude.{◌≡◌, ℕ, ◌<◌, ◌≤◌, true, false, Ok, ◌≢◌};
+ghost use Rattle.std.proofs.Common.{lit≤, arith};
+ghost use Rattle.theory.specs.Graph.{size, joining};
+ghost use Rattle.bits.specs.Rows.{rows_graph, pair_answer};
 
 use graph::fault::StoreFault;
 use graph::graph::{EditableGraph, ReadableGraph};
@@ -10,6 +11,7 @@ use graph::graph::{EditableGraph, ReadableGraph};
 pub mod copy;
 
 /// A join graph of up to 64 tables. A row has a bit for every table, so there is room for all 2016 joins of 64 tables.
+// stays: the memory is fixed, so there are rows past the last table, which the invariants keep empty
 #[derive(Clone, Copy)]
 pub struct BitTable {
     count: u32,
@@ -32,20 +34,26 @@ pub struct BitTable {
 }
 
 impl BitTable {
-    /// A graph without joins, of as many tables as asked for, but at least 1 and at most 64.
-    pub fn new(tables: u32) -> BitTable
-        ensures { rows_graph result.count result.rows ≡ no_joins (clamped tables) }
+    /// What stands against any edit of a pair: 1 where one of the two is no table, and 2 where they are the same.
+    fn judge_pair(&self, a: u32, b: u32) -> Result<(), StoreFault>
+        ensures answer { result ≡ pair_answer self.now.count a b }
+        ensures two { result ≡ Ok tt → (a < self.now.count) × ((b < self.now.count) × (a ≢ b)) }
     {
-        BitTable {
-            count: tables.clamp(1, 64),
-            rows: [0; 64],
-            joins: 0,
+        if a >= self.count {
+            return Err(StoreFault::UnknownTable { table: a });
         }
+        if b >= self.count {
+            return Err(StoreFault::UnknownTable { table: b });
+        }
+        if a == b {
+            return Err(StoreFault::SameTable { table: a });
+        }
+        Ok(())
     }
 
     /// Puts in the pair of two different tables that are not joined.
     fn put(&mut self, a: u32, b: u32)
-        requires { (a < self.old.count) × ((b < self.old.count) × (((a ≢ b)) × ((rows_graph self.old.count self.old.rows).adj a b ≡ false))) }
+        requires { (a < self.old.count) × ((b < self.old.count) × ((a ≢ b) × ((rows_graph self.old.count self.old.rows).adj a b ≡ false))) }
         ensures { rows_graph self.new.count self.new.rows ≡ joining (rows_graph self.old.count self.old.rows) a b }
     {
         self.rows[a as usize] |= 1u64 << b;
@@ -64,11 +72,7 @@ impl ReadableGraph for BitTable {
     }
 
     fn joined(&self, a: u32, b: u32) -> bool {
-        if a < self.count && b < self.count {
-            (self.rows[a as usize] >> b) & 1 == 1
-        } else {
-            false
-        }
+        a < self.count && b < self.count && (self.rows[a as usize] >> b) & 1 == 1
     }
 
     fn next_neighbour(&self, table: u32, bound: u32) -> Option<u32> {
@@ -87,6 +91,8 @@ impl ReadableGraph for BitTable {
 impl EditableGraph for BitTable {
     ghost limit = { λ _. 2016 };
 
+    ghost within = { λ s. Prim.omega (arith, s.counted, s.fits) };
+
     ghost bounded = { λ _. lit≤ tt };
 
     fn capacity(&self) -> u32 {
@@ -94,15 +100,7 @@ impl EditableGraph for BitTable {
     }
 
     fn join(&mut self, a: u32, b: u32) -> Result<(), StoreFault> {
-        if a >= self.count {
-            return Err(StoreFault::UnknownTable { table: a });
-        }
-        if b >= self.count {
-            return Err(StoreFault::UnknownTable { table: b });
-        }
-        if a == b {
-            return Err(StoreFault::SameTable { table: a });
-        }
+        self.judge_pair(a, b)?;
         if self.joined(a, b) {
             return Err(StoreFault::AlreadyJoined { a, b });
         }
@@ -114,15 +112,7 @@ impl EditableGraph for BitTable {
     }
 
     fn unjoin(&mut self, a: u32, b: u32) -> Result<(), StoreFault> {
-        if a >= self.count {
-            return Err(StoreFault::UnknownTable { table: a });
-        }
-        if b >= self.count {
-            return Err(StoreFault::UnknownTable { table: b });
-        }
-        if a == b {
-            return Err(StoreFault::SameTable { table: a });
-        }
+        self.judge_pair(a, b)?;
         if !self.joined(a, b) {
             return Err(StoreFault::NotJoined { a, b });
         }

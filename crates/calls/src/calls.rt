@@ -184,9 +184,8 @@ fn replay_refused_at_a_step(rt: HostRuntime) {
 /// 5 at the start, at a node step and at an edge step: a step leaves no half of itself.
 #[test]
 fn replay_without_room(rt: HostRuntime) {
-    // the capacity, the step that is refused, and the number of joins that are left
-    for row in [(2, 0, 0), (3, 1, 3), (4, 2, 4)] {
-        let (capacity, step, joins) = row;
+    // the step that is refused, and the number of joins that are left
+    for (capacity, step, joins) in [(2, 0, 0), (3, 1, 3), (4, 2, 4)] {
         let mut graph = Narrow::new(5, capacity);
         assert_eq!(rt;
             replay(&mut graph, FIRST, &STEPS),

@@ -40,6 +40,8 @@ impl ReadableGraph for Narrow {
 impl EditableGraph for Narrow {
     ghost limit = { λ s. s.most };
 
+    ghost within = { λ s. s.fits };
+
     ghost bounded = { λ s. s.low };
 
     fn capacity(&self) -> u32 {
@@ -69,12 +71,7 @@ impl EditableGraph for Narrow {
     }
 
     fn unjoin(&mut self, a: u32, b: u32) -> Result<(), StoreFault> {
-        let tables = self.graph.tables();
-        if a < tables && b < tables && a != b && self.graph.joined(a, b) {
-            return self.graph.unjoin(a, b);
-        }
-        let mut same = self.graph;
-        same.unjoin(a, b)
+        self.graph.unjoin(a, b)
     }
 }
 

@@ -107,10 +107,11 @@ fn stack_of_two(rt: HostRuntime) {
     let mut slots = [5u32, 6, 7];
     let mut stack = Stack::new(&mut slots[0..2]);
     assert_eq!(rt; stack.pop(), None);
-    assert!(rt; stack.push(1));
-    assert!(rt; stack.push(2));
-    assert!(rt; !stack.push(3));
+    assert_eq!(rt; stack.push(1), Ok(()));
+    assert_eq!(rt; stack.push(2), Ok(()));
+    assert_eq!(rt; stack.push(3), Err(3));
     assert_eq!(rt; stack.len(), 2);
+    assert_eq!(rt; stack.top(), Some(2));
     assert_eq!(rt; stack.pop(), Some(2));
     assert_eq!(rt; stack.pop(), Some(1));
     assert_eq!(rt; stack.pop(), None);

@@ -1,6 +1,10 @@
 //! The program `replay`, from bytes to bytes.
+//! stays: helpers with the names of those of the other program's tests; a crate between them would have to promise in public
+//! what only tests need. Texts of different lengths fit no chunks, and a length or a place in a text is what is tested.
 use programs::replay::replay_text;
+use std::alloc::{AllocError, Global};
 use std::process::Abort;
+use std::test::Fail;
 use theory::step::Step;
 
 const FIVE: &[u8] =
@@ -127,16 +131,19 @@ const REFUSALS: &[u8] = b"\
 
 #[test]
 fn refusals(rt: HostRuntime) {
-    let mut start = 0;
-    for i in 0..70usize {
-        let at = 17 * i;
-        assert!(rt; start <= at && at + 17 <= REFUSALS.len());
-        if REFUSALS[at] == b'X' {
-            prints(&rt, &REFUSALS[start..at], &REFUSALS[at..at + 17]);
-            start = at + 17;
-        }
+    let mut rest = REFUSALS;
+    while let Some(lines) = rest
+        .as_chunks::<17>()
+        .0
+        .iter()
+        .position(|line| line[0] == b'X')
+    {
+        let (text, behind) = rest.split_at(17 * lines);
+        let (refusal, others) = behind.split_at(17);
+        prints(&rt, text, refusal);
+        rest = others;
     }
-    assert_eq!(rt; start, REFUSALS.len());
+    assert!(rt; rest.is_empty());
 }
 
 /// Lines, each with the X line that it gives where it stands after the list of five tables: a line in form is refused by
@@ -237,156 +244,92 @@ const FORMS: &[u8] = b"\
 #[test]
 fn forms(rt: HostRuntime) {
     assert_eq!(rt; FORMS.len(), 34 * 45);
-    for i in 0..45usize {
-        let at = 34 * i;
-        assert!(rt; at + 34 <= FORMS.len());
-        prints_both(&rt, FIVE, &FORMS[at..at + 17], &FORMS[at + 17..at + 34]);
+    for [line, refusal] in FORMS.as_chunks::<17>().0.as_chunks::<2>().0 {
+        prints_both(&rt, FIVE, line, refusal);
     }
 }
 
-/// The character of the tens of a table's number, and of its ones.
-fn tens(v: usize) -> u8 {
-    if v < 10 { 32 } else { (48 + v / 10 % 10) as u8 }
-}
-
-fn ones(v: usize) -> u8 {
-    (48 + v % 10) as u8
-}
-
-/// The line of refusal 15 at a place below 100.
-fn bad_form(place: usize) -> [u8; 17] {
-    [
-        88,
-        32,
-        32,
-        32,
-        49,
-        53,
-        32,
-        32,
-        32,
-        32,
-        49,
-        32,
-        32,
-        32,
-        tens(place),
-        ones(place),
-        10,
-    ]
+/// The line of refusal 15 at a place.
+fn bad_form(alloc: Global, place: usize) -> Result<String, AllocError> {
+    format!(in alloc; "X   15    1{place:>5}\n")
 }
 
 /// Every text that is cut off is refused at its end.
 #[test]
-fn cut_off(rt: HostRuntime) {
-    for len in 0..85usize {
-        prints(&rt, &FIVE[0..len], &bad_form(len));
+fn cut_off(rt: HostRuntime) -> Result<(), Fail> {
+    for len in 0..FIVE.len() {
+        prints(&rt, &FIVE[0..len], bad_form(rt.alloc(), len)?.as_bytes());
     }
+    Ok(())
 }
 
 /// A byte that no line has is refused where it stands.
 #[test]
-fn damaged(rt: HostRuntime) {
+fn damaged(rt: HostRuntime) -> Result<(), Fail> {
     let bytes = [
         0u8, 9, 11, 13, 33, 43, 45, 46, 47, 58, 64, 91, 104, 127, 128, 160, 178, 255,
     ];
-    for b in bytes.iter() {
-        for at in 0..85usize {
+    for byte in bytes {
+        for at in 0..FIVE.len() {
             let mut input = [0u8; 85];
             input.copy_from_slice(FIVE);
-            input[at] = *b;
-            prints(&rt, &input, &bad_form(at));
+            input[at] = byte;
+            prints(&rt, &input, bad_form(rt.alloc(), at)?.as_bytes());
         }
     }
+    Ok(())
 }
 
 /// A line of two tables.
-fn pair(letter: u8, v: usize, w: usize) -> [u8; 17] {
-    [
-        letter,
-        32,
-        32,
-        32,
-        32,
-        32,
-        32,
-        32,
-        32,
-        tens(v),
-        ones(v),
-        32,
-        32,
-        32,
-        tens(w),
-        ones(w),
-        10,
-    ]
+fn pair(alloc: Global, letter: char, v: usize, w: usize) -> Result<String, AllocError> {
+    format!(in alloc; "{letter}{v:>10}{w:>5}\n")
 }
 
 /// The largest list: each table from 3 on is put into the join of 0 and 1, which is then joined again, and is joined with
 /// the tables from 2 on that are below it.
-fn largest(rt: &impl Abort, text: &mut [u8; 36465]) -> usize {
-    let mut at = lay(rt, text, 0, b"H   64 2016 2013\n");
-    at = lay(rt, text, at, b"T    0    1    2\n");
+fn largest(rt: &(impl Abort + AllocGlobal), text: &mut [u8; 36465]) -> Result<usize, AllocError> {
+    let mut at = lay(rt, text, 0, b"H   64 2016 2013\nT    0    1    2\n");
     for u in 3..64usize {
-        at = lay(
-            rt,
-            text,
-            at,
-            &[
-                78,
-                32,
-                32,
-                32,
-                tens(u),
-                ones(u),
-                32,
-                32,
-                32,
-                32,
-                48,
-                32,
-                32,
-                32,
-                32,
-                49,
-                10,
-            ],
-        );
-        at = lay(rt, text, at, &pair(69, 0, 1));
+        let node = format!(in rt.alloc(); "N{u:>5}    0    1\n")?;
+        at = lay(rt, text, at, node.as_bytes());
+        at = lay(rt, text, at, pair(rt.alloc(), 'E', 0, 1)?.as_bytes());
         for w in 2..u {
-            at = lay(rt, text, at, &pair(69, u, w));
+            at = lay(rt, text, at, pair(rt.alloc(), 'E', u, w)?.as_bytes());
         }
     }
-    at
+    Ok(at)
 }
 
 /// It gives all 2,016 joins of 64 tables.
 #[test]
-fn largest_list(rt: HostRuntime) {
+fn largest_list(rt: HostRuntime) -> Result<(), Fail> {
     let mut text = [0u8; 36465];
     let mut steps = [Step::Edge { v: 0, w: 0 }; 2013];
-    assert_eq!(rt; largest(&rt, &mut text), 34255);
+    assert_eq!(rt; largest(&rt, &mut text)?, 34255);
     assert_eq!(rt; replay_text(&mut text, 34255, &mut steps), 34289);
     assert_eq!(rt; &text[0..17], b"G   64 2016     \n".as_slice());
-    let mut at = 17;
+    let mut lines = text[17..34289].as_chunks::<17>().0.iter();
     for v in 0..64usize {
         for w in v + 1..64 {
-            assert!(rt; at <= 36448);
-            assert_eq!(rt; &text[at..at + 17], pair(74, v, w).as_slice());
-            at += 17;
+            let expected = pair(rt.alloc(), 'J', v, w)?;
+            assert_eq!(rt;
+                lines.next().map(|line| line.as_slice()),
+                Some(expected.as_bytes())
+            );
         }
     }
-    assert_eq!(rt; at, 34289);
+    assert!(rt; lines.next().is_none());
+    Ok(())
 }
 
 /// One line more is refused, whatever its bytes past the first 17 are.
 #[test]
-fn more_than_largest(rt: HostRuntime) {
+fn more_than_largest(rt: HostRuntime) -> Result<(), Fail> {
     let mut text = [0u8; 36465];
     let mut steps = [Step::Edge { v: 0, w: 0 }; 2013];
-    let at = largest(&rt, &mut text);
-    let _ = lay(&rt, &mut text, at, &pair(69, 0, 1));
+    let at = largest(&rt, &mut text)?;
+    let _ = lay(&rt, &mut text, at, pair(rt.alloc(), 'E', 0, 1)?.as_bytes());
     assert_eq!(rt; replay_text(&mut text, 36465, &mut steps), 17);
     assert_eq!(rt; &text[0..17], b"X   16    134255\n".as_slice());
+    Ok(())
 }

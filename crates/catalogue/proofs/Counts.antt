@@ -1,13 +1,13 @@
 -- The counts of records: where one is set, and in a new catalogue; and that none is out of range.
 --
 --   set_count       after one record is set: its table's count, or another's
---   new_count       in a new catalogue every count is unknown
+--   new_count       in a new catalogue no count is known
 --   set_ranged      a stored number within its range stands for no count out of range
-use Rattle.std.proofs.Common.{◌≡◌, ℕ, zero, suc, ◌<◌, ◌≤◌, Bool, true, false, cond, eqb, ltb, List, length, get_or, set, replicate, ℤ, pos, negsuc, sym, refl, ap, ◌∙◌, arith}
+use Rattle.std.proofs.Common.{◌≡◌, ℕ, zero, suc, ◌<◌, ◌≤◌, Bool, true, false, cond, eqb, ltb, List, Some, None, length, get_or, set, replicate, ℤ, pos, negsuc, sym, refl, ap, ◌∙◌, arith}
 use Rattle.std.proofs.lemmas.List.{get_or-set_same, get_or-set_other}
+use Rattle.std.proofs.lemmas.Option.{none-some}
 use Rattle.std.proofs.lemmas.Bool.{eqb-true, eqb-false, ltb-false, lt-ltb}
 use Rattle.catalogue.specs.Rows.{stored_count, out_of_range, unknown, count_of}
-use Rattle.catalogue.specs.declared.catalogue.RowCount.TheVariants.{Known, Unknown}
 use Rattle.catalogue.specs.declared.catalogue.RowRecord.{RowRecord}
 
 -- by whether it is this table
@@ -15,33 +15,29 @@ pub set_count : (l : List RowRecord) (t x : ℕ) (r : RowRecord) → t < 64 → 
     → count_of (set l t r) x ≡ cond b r.count (count_of l x)
 set_count l t x r h long true e =
     let is : x ≡ t = eqb-true x t e in
-    ap (λ b. cond b (get_or (set l t r) x unknown).count Unknown) (lt-ltb x 64 (omega arith))
+    ap (λ b. cond b (get_or (set l t r) x unknown).count None) (lt-ltb x 64 (omega arith))
     ∙ ap (λ y. (get_or (set l t r) y unknown).count) is
     ∙ ap (λ (s : RowRecord). s.count) (get_or-set_same l t r unknown (omega arith))
-set_count l t x r h long false e = ap (λ (s : RowRecord). cond (ltb x 64) s.count Unknown) (get_or-set_other l t x r unknown (eqb-false x t e))
+set_count l t x r h long false e = ap (λ (s : RowRecord). cond (ltb x 64) s.count None) (get_or-set_other l t x r unknown (eqb-false x t e))
 
 all_unknown : (k t : ℕ) → get_or (replicate k unknown) t unknown ≡ unknown
 all_unknown zero t = refl
 all_unknown (suc k) zero = refl
 all_unknown (suc k) (suc t) = all_unknown k t
 
-either_way : (b : Bool) → cond b Unknown Unknown ≡ Unknown
-either_way true = refl
-either_way false = refl
+either_way : {A : Type 0} (b : Bool) (x : A) → cond b x x ≡ x
+either_way true x = refl
+either_way false x = refl
 
-pub new_count : (t : ℕ) → count_of (replicate 64 unknown) t ≡ Unknown
-new_count t = ap (λ (s : RowRecord). cond (ltb t 64) s.count Unknown) (all_unknown 64 t) ∙ either_way (ltb t 64)
+pub new_count : (t : ℕ) → count_of (replicate 64 unknown) t ≡ None
+new_count t = ap (λ (s : RowRecord). cond (ltb t 64) s.count None) (all_unknown 64 t) ∙ either_way (ltb t 64) None
 
--- unknown is no count
-pub no_count : {A : Type 0} (n : ℕ) → Unknown ≡ Known n → A
-no_count n e = let z : ◌≡◌ {A = ℕ} 0 1 = cc in absurd (omega arith)
-
-stored_ranged : (z : ℤ) (n : ℕ) → out_of_range z ≡ false → stored_count z ≡ Known n → n ≤ 2147483647
+stored_ranged : (z : ℤ) (n : ℕ) → out_of_range z ≡ false → stored_count z ≡ Some n → n ≤ 2147483647
 stored_ranged (pos k) n h e = let is : k ≡ n = cc in let low : k ≤ 2147483647 = ltb-false 2147483647 k h in omega arith
-stored_ranged (negsuc k) n h e = no_count n e
+stored_ranged (negsuc k) n h e = absurd (none-some n e)
 
 abbrev Ranged : List RowRecord → Type 0
-Ranged l = (t n : ℕ) → count_of l t ≡ Known n → n ≤ 2147483647
+Ranged l = (t n : ℕ) → count_of l t ≡ Some n → n ≤ 2147483647
 
 pub set_ranged : (l : List RowRecord) (t : ℕ) (r : RowRecord) (z : ℤ) → r.count ≡ stored_count z → out_of_range z ≡ false → t < 64 → 64 ≤ length l → Ranged l → Ranged (set l t r)
 set_ranged l t r z is low h long so x n e = by (eqb x t) refl

@@ -1,22 +1,15 @@
 //! The catalogue: for each of 64 tables one record, with the number of its rows, or without one.
-ghost use Rattle.std.specs.Prelude.{◌≡◌, ℕ, ◌<◌, ◌≤◌, false, length, replicate, slice_set};
-ghost use Rattle.catalogue.specs.declared.catalogue.RowCount.TheVariants.{Known};
+ghost use Rattle.std.specs.Prelude.{◌≡◌, ℕ, ◌<◌, ◌≤◌, false, length, replicate, slice_set, Some};
 ghost use Rattle.catalogue.specs.Rows.{stored_count, out_of_range, row_record, set_answer, records_after, unknown, count_of, SetsOne};
 
 use super::fault::RowFault;
 
-/// The number of a table's rows.
-#[derive(Clone, Copy, PartialEq, Eq, Debug)]
-pub enum RowCount {
-    Unknown,
-    /// From 0 to 2,147,483,647.
-    Known(u32),
-}
-
 /// What is kept of one table.
+// stays: a table's record is lent to its setter, whatever else it may come to hold
 #[derive(Clone, Copy, PartialEq, Eq, Debug)]
 pub struct RowRecord {
-    count: RowCount,
+    /// The number of its rows, from 0 to 2,147,483,647, where that is known.
+    count: Option<u32>,
 }
 
 impl RowRecord {
@@ -25,11 +18,7 @@ impl RowRecord {
         requires { out_of_range stored ≡ false }
         ensures { self.new.count ≡ stored_count stored }
     {
-        if stored == -1 {
-            self.count = RowCount::Unknown;
-        } else {
-            self.count = RowCount::Known(stored as u32);
-        }
+        self.count = u32::try_from(stored).ok();
     }
 }
 
@@ -40,7 +29,7 @@ pub struct Catalogue {
     /// There is a record for each of 64 tables.
     ghost full: { 64 ≤ length records },
     /// No known count is above 2,147,483,647.
-    ghost ranged: { (t n : ℕ) → count_of records t ≡ Known n → n ≤ 2147483647 },
+    ghost ranged: { (t n : ℕ) → count_of records t ≡ Some n → n ≤ 2147483647 },
 }
 
 impl Catalogue {
@@ -49,24 +38,19 @@ impl Catalogue {
         ensures { result.records ≡ replicate 64 unknown }
     {
         Catalogue {
-            records: [RowRecord {
-                count: RowCount::Unknown,
-            }; 64],
+            records: [RowRecord { count: None }; 64],
         }
     }
 
-    /// The count of a table, and unknown for a number not below 64.
-    pub fn get(&self, table: u32) -> RowCount
+    /// The count of a table where it is known, and none for a number not below 64.
+    pub fn get(&self, table: u32) -> Option<u32>
         ensures { result ≡ count_of self.now.records table }
     {
-        if table < 64 {
-            self.records[table as usize].count
-        } else {
-            RowCount::Unknown
-        }
+        self.records.get(table as usize)?.count
     }
 
     /// Lends the table's record to its setter.
+    // stays: a table and its stored number travel from the line that names them to the record, and are nothing together
     fn put(&mut self, table: u32, stored: i64)
         requires { (table < 64) × (out_of_range stored ≡ false) }
         ensures { self.new.records ≡ slice_set self.old.records table (row_record stored) }

@@ -1,159 +1,152 @@
--- Fields read place after place are the fields of the definitions.
-use Rattle.std.proofs.Common.{◌≡◌, ℕ, suc, ◌+◌, ◌-◌, ◌*◌, Bool, true, false, cond, not, ◌&&◌, ◌||◌, eqb, List, ℤ, Ok, Err, Result, sym, refl, ap, ◌∙◌, arith}
-use Rattle.lines.specs.Read.{then, byte, is_digit, digit_may, blank_may, number_from, number_at, count_from, count_at, blank_from, unused_at, or_number, fields_at}
-use Rattle.lines.specs.declared.line.Fields.TheVariants.{Counted}
-use Rattle.lines.specs.declared.line.Layout.TheVariants as layouts
-use Rattle.columns.specs.Place.{place_at, places_at, mark_at, first_marks_at, last_marks_at, marks_at, count_of, blank_at, blanks_at, three_at, last_two_at, first_two_at, counted_at, single_at}
+-- Reading a field place after place.
+--
+--   Reading           a field's reading: one place, and then the rest
+--   kept, cut, over   what a field's reading amounts to after one more place, where that place is refused, and after the last
+--   low, more         how large a number of k digits is
+--   numbers, counts, blanks                  the readings of the three kinds of field
+--   last_kept, last_cut                      the last two places of a number
+--   short_number, blank_count, blank_field   a field whose first three, or all five, places are blank
+use Rattle.std.proofs.Common.{◌≡◌, ℕ, suc, ◌+◌, ◌-◌, ◌*◌, ◌^◌, ◌<◌, ◌≤◌, Bool, true, false, cond, not, ◌&&◌, ◌||◌, eqb, List, ℤ, Ok, Err, Result, sym, refl, ap, ◌∙◌, arith}
+use native.Mathlib.Nat.{pow-le-pow_right}
+use Rattle.std.proofs.lemmas.Grind.{pow_more}
+use Rattle.std.proofs.lemmas.Bool.Decides.{nat_tests}
+use Rattle.lines.specs.declared.line.BadByte.{BadByte}
+use Rattle.lines.specs.Read.{bad, then, byte, is_digit, digit_may, blank_may, number_from, number_at, count_from, count_at, blank_from, unused_at}
+use Rattle.lines.proofs.Steps.{number_blank, count_blank, blank_more, blank_done}
+use Rattle.columns.specs.Place.{place_at, mark_at, blank_at, Blank}
 
-two_ways : {X Y : Type 0} (d e : Bool) (x y : X) (i : ℕ) (f : X → Result Y ℕ) → cond d (f x) (cond e (f y) (Err i)) ≡ then (cond d (Ok x) (cond e (Ok y) (Err i))) f
-two_ways true e x y i f = refl
-two_ways false true x y i f = refl
-two_ways false false x y i f = refl
+-- a field's reading from the place i on, where k more places are to come and s is what those before tell
+pub record Reading (S X : Type 0) : Type 0 where
+  pub from : ℕ → ℕ → S → Result X BadByte
+  pub one : ℕ → ℕ → S → Result S BadByte
+  pub step : (i j k : ℕ) (s : S) → j ≡ i + 1 → from i (suc k) s ≡ then (one i k s) (λ w. from j k w)
 
-three_ways : {X Y : Type 0} (d e g : Bool) (x y z : X) (i : ℕ) (f : X → Result Y ℕ)
-    → cond d (f x) (cond e (f y) (cond g (f z) (Err i))) ≡ then (cond d (Ok x) (cond e (Ok y) (cond g (Ok z) (Err i)))) f
-three_ways true e g x y z i f = refl
-three_ways false true g x y z i f = refl
-three_ways false false true x y z i f = refl
-three_ways false false false x y z i f = refl
+-- whole is the reading of m + 1 places from `at` on, and what s tells is known after k of them
+module _ {S X : Type 0} (R : Reading S X) (at m : ℕ) (whole : Result X BadByte) (k : ℕ) (s : S)
+    (so : whole ≡ R.from (at + k) (suc m - k) s) where
+  -- the places after the next one
+  abbrev after : S → Result X BadByte
+  after w = R.from (at + (k + 1)) (suc m - (k + 1)) w
 
--- what follows may be replaced by what is equal to it
-pub then_same : {X Y : Type 0} (r : Result X ℕ) (f g : X → Result Y ℕ) → ((x : X) → f x ≡ g x) → then r f ≡ then r g
-then_same (Ok x) f g h = h x
-then_same (Err p) f g h = refl
+  next : k < suc m → whole ≡ then (R.one (at + k) (m - k) s) after
+  next h =
+      let e : suc m - k ≡ suc (m - k) = omega arith in
+      let d : suc m - (k + 1) ≡ m - k = omega arith in
+      let one : R.from (at + k) (suc m - k) s ≡ then (R.one (at + k) (m - k) s) (λ w. R.from (at + (k + 1)) (suc m - (k + 1)) w) =
+      rw (e, d) (R.step (at + k) (at + (k + 1)) (m - k) s (omega arith)) in
+      so ∙ one
 
-number_step : (text : List ℕ) (i j k v : ℕ) → j ≡ i + 1 → number_from text i (suc k) v ≡ then (place_at text i k v) (λ w. number_from text j k w)
-unfolding number_from
-number_step text i j k v e =
-    two_ways (digit_may k v (byte text i)) (blank_may k v (byte text i)) (v * 10 + (byte text i - 48)) v i (λ w. number_from text (i + 1) k w)
-    ∙ ap (λ n. then (place_at text i k v) (λ w. number_from text n k w)) (sym e)
+  module _ (h : k < suc m) (r : Result S BadByte) (is : r ≡ R.one (at + k) (m - k) s) where
+    pub kept : (w : S) → r ≡ Ok w → whole ≡ R.from (at + (k + 1)) (suc m - (k + 1)) w
+    kept w e = next h ∙ ap (λ q. then q after) (sym is ∙ e)
 
-number_last : (text : List ℕ) (i v : ℕ) → number_from text i 1 v ≡ place_at text i 0 v
-unfolding number_from
-number_last text i v = refl
+    pub cut : (b : BadByte) → r ≡ Err b → whole ≡ Err b
+    cut b e = next h ∙ ap (λ q. then q after) (sym is ∙ e)
 
-pub places_number : (text : List ℕ) (i : ℕ) → places_at text i ≡ number_at text i
-places_number text i = sym
-    (number_step text i (i + 1) 4 0 refl
-    ∙ then_same (place_at text i 4 0) _ _ (λ a. number_step text (i + 1) (i + 2) 3 a (omega arith)
-    ∙ then_same (place_at text (i + 1) 3 a) _ _ (λ b. number_step text (i + 2) (i + 3) 2 b (omega arith)
-    ∙ then_same (place_at text (i + 2) 2 b) _ _ (λ c. number_step text (i + 3) (i + 4) 1 c (omega arith)
-    ∙ then_same (place_at text (i + 3) 1 c) _ _ (λ d. number_last text (i + 4) d)))))
+  pub over : suc m ≤ k → whole ≡ R.from (at + k) 0 s
+  over h = let e : suc m - k ≡ 0 = omega arith in so ∙ ap (λ n. R.from (at + k) n s) e
 
--- a row count's value with its sign, once all places are read
-told : Result (Bool × ℕ) ℕ → Result ℤ ℕ
-told r = then r (λ s. Ok (count_of s))
+-- a number of k digits, and of one more
+pub low : (k n v : ℕ) → k ≤ n → v < 10 ^ k → v < 10 ^ n
+low k n v h l = let e : 10 ^ k ≤ 10 ^ n = pow-le-pow_right (omega arith) h in omega arith
 
-told_then : (r : Result (Bool × ℕ) ℕ) (f : Bool × ℕ → Result (Bool × ℕ) ℕ) → told (then r f) ≡ then r (λ s. told (f s))
-unfolding told
-told_then (Ok s) f = refl
-told_then (Err p) f = refl
+pub more : (k v w : ℕ) → v < 10 ^ k → w ≤ v * 10 + 9 → w < 10 ^ (k + 1)
+more k v w l h = let e = pow_more 10 k in omega arith
 
-count_step : (text : List ℕ) (i j k : ℕ) (s : Bool × ℕ) → j ≡ i + 1 → count_from text i (suc k) s.0 s.1 ≡ then (mark_at text i k s) (λ w. count_from text j k w.0 w.1)
-unfolding count_from
-count_step text i j k s e =
-    three_ways
-    (is_digit (byte text i) && not (eqb s.1 0 && (eqb (byte text i) 48 && (s.0 || not (eqb k 0)))))
-    (blank_may k s.1 (byte text i) && not s.0)
-    (eqb (byte text i) 45 && (not s.0 && (eqb s.1 0 && not (eqb k 0))))
-    (s.0, s.1 * 10 + (byte text i - 48)) (false, s.1) (true, s.1) i (λ (w : Bool × ℕ). count_from text (i + 1) k w.0 w.1)
-    ∙ ap (λ n. then (mark_at text i k s) (λ (w : Bool × ℕ). count_from text n k w.0 w.1)) (sym e)
+-- the value of the first test that holds goes on
+way : {X Y : Type 0} (f : X → Result Y BadByte) (d : Bool) (x : X) (r : Result X BadByte) (q : Result Y BadByte) → q ≡ then r f
+    → cond d (f x) q ≡ then (cond d (Ok x) r) f
+way f true x r q e = refl
+way f false x r q e = e
 
-count_done : (text : List ℕ) (i : ℕ) (s : Bool × ℕ) → count_from text i 0 s.0 s.1 ≡ Ok (count_of s)
-unfolding count_from
-count_done text i s = refl
+module _ (text : List ℕ) where
+  pub number_step : (i j k v : ℕ) → j ≡ i + 1
+      → number_from text i (suc k) v ≡ then (place_at text i k v) (λ w. number_from text j k w)
+  unfolding number_from
+  number_step i j k v e =
+      let b = byte text i in
+      let on : ℕ → Result ℕ BadByte = λ w. number_from text (i + 1) k w in
+      way on (digit_may k v b) (v * 10 + (b - 48)) _ _ (way on (blank_may k v b) v (Err (bad i)) _ refl)
+      ∙ ap (λ n. then (place_at text i k v) (λ w. number_from text n k w)) (sym e)
 
--- one place more of the ten
-count_then : (text : List ℕ) (i j k : ℕ) (s : Bool × ℕ) (f : Bool × ℕ → Result (Bool × ℕ) ℕ) → j ≡ i + 1
-    → ((w : Bool × ℕ) → count_from text j k w.0 w.1 ≡ told (f w)) → count_from text i (suc k) s.0 s.1 ≡ told (then (mark_at text i k s) f)
-count_then text i j k s f e h =
-    count_step text i j k s e ∙ then_same (mark_at text i k s) _ _ h ∙ sym (told_then (mark_at text i k s) f)
+  abbrev pub numbers : Reading ℕ ℕ
+  numbers = record { from = number_from text; one = place_at text; step = number_step }
 
-count_last : (text : List ℕ) (i : ℕ) (s : Bool × ℕ) → count_from text i 1 s.0 s.1 ≡ told (mark_at text i 0 s)
-unfolding told
-count_last text i s = count_step text i (i + 1) 0 s refl ∙ then_same (mark_at text i 0 s) _ _ (λ w. count_done text (i + 1) w)
+  -- the last two places of a number, by the answer of the first of them
+  module _ (i : ℕ) (r : Result ℕ BadByte) (is : r ≡ place_at text (i + 3) 1 0) where
+    last_two : number_from text (i + 3) 2 0 ≡ then r (λ w. number_from text (i + 4) 1 w)
+    last_two = number_step (i + 3) (i + 4) 1 0 (omega arith) ∙ ap (λ q. then q (λ w. number_from text (i + 4) 1 w)) (sym is)
 
-then_on : {X Y Z : Type 0} (r : Result X ℕ) (f : X → Result Y ℕ) (g : Y → Result Z ℕ) → then (then r f) g ≡ then r (λ x. then (f x) g)
-then_on (Ok x) f g = refl
-then_on (Err p) f g = refl
+    pub last_kept : (w : ℕ) → r ≡ Ok w → number_from text (i + 3) 2 0 ≡ place_at text (i + 4) 0 w
+    unfolding number_from
+    last_kept w e = last_two ∙ ap (λ q. then q (λ w. number_from text (i + 4) 1 w)) e
 
--- the ten places of a row count are its first five and then its last five
-pub marks_split : (text : List ℕ) (i : ℕ) → then (first_marks_at text i) (λ s. last_marks_at text i s) ≡ marks_at text i
-marks_split text i =
-    then_on (mark_at text i 9 (false, 0)) _ _
-    ∙ then_same (mark_at text i 9 (false, 0)) _ _ (λ a. then_on (mark_at text (i + 1) 8 a) _ _
-    ∙ then_same (mark_at text (i + 1) 8 a) _ _ (λ b. then_on (mark_at text (i + 2) 7 b) _ _
-    ∙ then_same (mark_at text (i + 2) 7 b) _ _ (λ c. then_on (mark_at text (i + 3) 6 c) _ _)))
+    pub last_cut : (b : BadByte) → r ≡ Err b → number_from text (i + 3) 2 0 ≡ Err b
+    last_cut b e = last_two ∙ ap (λ q. then q (λ w. number_from text (i + 4) 1 w)) e
 
-pub marks_count : (text : List ℕ) (i : ℕ) → then (marks_at text i) (λ s. Ok (count_of s)) ≡ count_at text i
-unfolding told
-marks_count text i = sym
-    (count_then text i (i + 1) 9 (false, 0) _ refl (λ a.
-    count_then text (i + 1) (i + 2) 8 a _ (omega arith) (λ b.
-    count_then text (i + 2) (i + 3) 7 b _ (omega arith) (λ c.
-    count_then text (i + 3) (i + 4) 6 c _ (omega arith) (λ d.
-    count_then text (i + 4) (i + 5) 5 d _ (omega arith) (λ e.
-    count_then text (i + 5) (i + 6) 4 e _ (omega arith) (λ f.
-    count_then text (i + 6) (i + 7) 3 f _ (omega arith) (λ g.
-    count_then text (i + 7) (i + 8) 2 g _ (omega arith) (λ h.
-    count_then text (i + 8) (i + 9) 1 h _ (omega arith) (λ j. count_last text (i + 9) j))))))))))
+  abbrev pub count_on : ℕ → ℕ → Bool × ℕ → Result ℤ BadByte
+  count_on i k s = count_from text i k s.0 s.1
 
-blank_step : (text : List ℕ) (i j k : ℕ) → j ≡ i + 1 → blank_from text i (suc k) ≡ then (blank_at text i) (λ _. blank_from text j k)
-unfolding blank_from
-blank_step text i j k e =
-    elim (eqb (byte text i) 32) as (λ b. cond b (blank_from text (i + 1) k) (Err i) ≡ then (cond b (Ok tt) (Err i)) (λ _. blank_from text (i + 1) k)) [ true ↦ refl | false ↦ refl ]
-    ∙ ap (λ n. then (blank_at text i) (λ _. blank_from text n k)) (sym e)
+  pub count_step : (i j k : ℕ) (s : Bool × ℕ) → j ≡ i + 1
+      → count_on i (suc k) s ≡ then (mark_at text i k s) (λ w. count_on j k w)
+  unfolding count_from
+  count_step i j k s e =
+      let b = byte text i in
+      let on : Bool × ℕ → Result ℤ BadByte = λ w. count_on (i + 1) k w in
+      way on (is_digit b && not (eqb s.1 0 && (eqb b 48 && (s.0 || not (eqb k 0))))) (s.0, s.1 * 10 + (b - 48)) _ _
+      (way on (blank_may k s.1 b && not s.0) (false, s.1) _ _
+      (way on (eqb b 45 && (not s.0 && (eqb s.1 0 && not (eqb k 0)))) (true, s.1) (Err (bad i)) _ refl))
+      ∙ ap (λ n. then (mark_at text i k s) (λ (w : Bool × ℕ). count_on n k w)) (sym e)
 
-blank_last : (text : List ℕ) (i : ℕ) → blank_from text i 1 ≡ blank_at text i
-unfolding blank_from
-blank_last text i = refl
+  abbrev pub counts : Reading (Bool × ℕ) ℤ
+  counts = record { from = count_on; one = mark_at text; step = count_step }
 
-pub blanks_unused : (text : List ℕ) (i : ℕ) → blanks_at text i ≡ unused_at text i
-blanks_unused text i = sym
-    (blank_step text i (i + 1) 4 refl
-    ∙ then_same (blank_at text i) _ _ (λ _. blank_step text (i + 1) (i + 2) 3 (omega arith)
-    ∙ then_same (blank_at text (i + 1)) _ _ (λ _. blank_step text (i + 2) (i + 3) 2 (omega arith)
-    ∙ then_same (blank_at text (i + 2)) _ _ (λ _. blank_step text (i + 3) (i + 4) 1 (omega arith)
-    ∙ then_same (blank_at text (i + 3)) _ _ (λ _. blank_last text (i + 4))))))
+  pub blank_step : (i j k : ℕ) (u : Unit {0}) → j ≡ i + 1
+      → blank_from text i (suc k) ≡ then (blank_at text i) (λ _. blank_from text j k)
+  unfolding blank_from
+  blank_step i j k u e =
+      way (λ _. blank_from text (i + 1) k) (eqb (byte text i) 32) tt (Err (bad i)) _ refl
+      ∙ ap (λ n. then (blank_at text i) (λ _. blank_from text n k)) (sym e)
 
--- both the first field and what follows are replaced
-both_same : {X Y : Type 0} (r s : Result X ℕ) (f g : X → Result Y ℕ) → r ≡ s → ((x : X) → f x ≡ g x) → then r f ≡ then s g
-both_same r s f g e h = ap (λ q. then q f) e ∙ then_same s f g h
+  abbrev pub blanks : Reading (Unit {0}) (Unit {0})
+  blanks = record { from = λ i k _. blank_from text i k; one = λ i k _. blank_at text i; step = blank_step }
 
-pub three_fields : (text : List ℕ) (i : ℕ) → three_at text i ≡ fields_at layouts.Three text i
-unfolding fields_at
-three_fields text i =
-    both_same _ _ _ _ (places_number text i) (λ a.
-    both_same _ _ _ _ (places_number text (i + 5)) (λ b.
-    both_same _ _ _ _ (places_number text (i + 10)) (λ c. refl)))
+  -- a blank before the first digit
+  number_past : (i j k : ℕ) → j ≡ i + 1 → byte text i ≡ 32
+      → number_from text i (suc (suc k)) 0 ≡ number_from text j (suc k) 0
+  number_past i j k e b =
+      number_blank text i (suc k) 0 (grind (arith, nat_tests)) (grind (arith, nat_tests))
+      ∙ ap (λ n. number_from text n (suc k) 0) (sym e)
 
-pub last_two_fields : (text : List ℕ) (i : ℕ) → last_two_at text i ≡ fields_at layouts.LastTwo text i
-unfolding fields_at
-last_two_fields text i =
-    both_same _ _ _ _ (blanks_unused text i) (λ _.
-    both_same _ _ _ _ (places_number text (i + 5)) (λ v.
-    both_same _ _ _ _ (places_number text (i + 10)) (λ w. refl)))
+  pub short_number : (i : ℕ) → byte text i ≡ 32 → byte text (i + 1) ≡ 32 → byte text (i + 2) ≡ 32
+      → number_at text i ≡ number_from text (i + 3) 2 0
+  short_number i a b c =
+      number_past i (i + 1) 3 refl a
+      ∙ number_past (i + 1) (i + 2) 2 (omega arith) b
+      ∙ number_past (i + 2) (i + 3) 1 (omega arith) c
 
-pub first_two_fields : (text : List ℕ) (i : ℕ) → first_two_at text i ≡ fields_at layouts.FirstTwo text i
-unfolding fields_at
-first_two_fields text i =
-    both_same _ _ _ _ (places_number text i) (λ a.
-    both_same _ _ _ _ (places_number text (i + 5)) (λ b.
-    both_same _ _ _ _ (blanks_unused text (i + 10)) (λ _. refl)))
+  count_past : (i j k : ℕ) → j ≡ i + 1 → byte text i ≡ 32
+      → count_from text i (suc (suc k)) false 0 ≡ count_from text j (suc k) false 0
+  count_past i j k e b =
+      count_blank text i (suc k) false 0 (grind (arith, nat_tests)) (grind (arith, nat_tests))
+      ∙ ap (λ n. count_from text n (suc k) false 0) (sym e)
 
-then_then : {X Y Z : Type 0} (r : Result X ℕ) (f : X → Y) (g : Y → Result Z ℕ) → then r (λ x. g (f x)) ≡ then (then r (λ x. Ok (f x))) g
-then_then (Ok x) f g = refl
-then_then (Err p) f g = refl
+  pub blank_count : (i : ℕ) → Blank text i → count_at text i ≡ count_from text (i + 5) 5 false 0
+  blank_count i b =
+      count_past i (i + 1) 8 refl b.first
+      ∙ count_past (i + 1) (i + 2) 7 (omega arith) b.second
+      ∙ count_past (i + 2) (i + 3) 6 (omega arith) b.third
+      ∙ count_past (i + 3) (i + 4) 5 (omega arith) b.fourth
+      ∙ count_past (i + 4) (i + 5) 4 (omega arith) b.fifth
 
-pub counted_fields : (text : List ℕ) (i : ℕ) → counted_at text i ≡ fields_at layouts.Counted text i
-unfolding fields_at
-counted_fields text i =
-    both_same _ _ _ _ (places_number text i) (λ t.
-    then_then (marks_at text (i + 5)) count_of (λ z. Ok (Counted t z)) ∙ both_same _ _ _ _ (marks_count text (i + 5)) (λ z. refl))
+  blank_past : (i j k : ℕ) → j ≡ i + 1 → byte text i ≡ 32 → blank_from text i (suc k) ≡ blank_from text j k
+  blank_past i j k e b = blank_more text i k (rw b refl) ∙ ap (λ n. blank_from text n k) (sym e)
 
-pub single_fields : (text : List ℕ) (i : ℕ) → single_at text i ≡ fields_at layouts.Single text i
-unfolding fields_at
-single_fields text i =
-    both_same _ _ _ _ (ap (λ r. or_number r (places_at text i)) (blanks_unused text i) ∙ ap (or_number (unused_at text i)) (places_number text i)) (λ o.
-    both_same _ _ _ _ (blanks_unused text (i + 5)) (λ _.
-    both_same _ _ _ _ (blanks_unused text (i + 10)) (λ _. refl)))
+  pub blank_field : (i : ℕ) → Blank text i → unused_at text i ≡ Ok tt
+  blank_field i b =
+      blank_past i (i + 1) 4 refl b.first
+      ∙ blank_past (i + 1) (i + 2) 3 (omega arith) b.second
+      ∙ blank_past (i + 2) (i + 3) 2 (omega arith) b.third
+      ∙ blank_past (i + 3) (i + 4) 1 (omega arith) b.fourth
+      ∙ blank_past (i + 4) (i + 5) 0 (omega arith) b.fifth
+      ∙ blank_done text (i + 5)

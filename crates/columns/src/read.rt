@@ -1,309 +1,355 @@
-//! Reading one line: the line, or the place of the first byte that no line begun so can have.
-ghost use Rattle.std.specs.Prelude.{◌≡◌, ℕ, ◌+◌, ◌-◌, ◌*◌, ◌<◌, ◌≤◌, Bool, true, false, length, IfOk, Ok, OnOk, slice_index};
-ghost use Rattle.lines.specs.Read.{byte as the_byte, number_at, count_at, unused_at, optional_at, fields_at, line_at, or_number, line_in, signed as the_signed};
-ghost use Rattle.lines.specs.Text.{layout as the_layout};
+//! Reading one line: the line, or the first byte that no line begun so can have.
+ghost use Rattle.std.specs.Prelude.{◌≡◌, ◌+◌, ◌-◌, ◌*◌, ◌<◌, ◌≤◌, true, length, IfOk, OnOk, slice_index};
+ghost use Rattle.lines.specs.Read.{byte as the_byte, then, number_from, number_at, count_at, unused_at, optional_at, fields_at, line_at, signed};
 ghost use Rattle.lines.specs.Form.{LineRead};
-ghost use Rattle.columns.specs.Place.{place_at, places_at, last_places_at, mark_at, first_marks_at, last_marks_at, marks_at, count_of, blank_at, blanks_at, three_at, last_two_at, first_two_at, counted_at, single_at};
+ghost use Rattle.columns.specs.Place.{place_at, mark_at, marks_left, blank_at, Blank};
 
-use lines::line::{Fields, Layout, Line};
+use lines::line::{BadByte, Fields, Layout, Line};
+use std::marker::Model;
 
-/// The byte at `i`, and 0 past the text's end.
-fn byte(text: &[u8], i: usize) -> u8
-    ensures { result ≡ the_byte text.now i }
-{
-    if i < text.len() { text[i] } else { 0 }
+/// What the places of a row count tell that have been read: whether a minus sign was among them, and the value of the digits.
+#[derive(Clone, Copy)]
+struct Count {
+    minus: bool,
+    value: u64,
 }
 
-/// One place of a number: `after` more follow it.
-fn place(text: &[u8], i: usize, after: u32, v: u32) -> Result<u32, usize>
-    requires { v ≤ 99999 }
-    ensures answer { result ≡ place_at text.now i after v }
-    ensures small { IfOk result (λ w. w ≤ v * 10 + 9) }
-{
-    let b = byte(text, i);
-    if b >= 48 && b <= 57 && !(v == 0 && b == 48 && after != 0) {
-        Ok(v * 10 + (b - 48) as u32)
-    } else if b == 32 && v == 0 && after != 0 {
+/// At most ten digits are read.
+// stays: the definitions go from one pair to the next; over the struct itself each of them would have to carry the bound
+impl Model for Count {
+    ghost use Rattle.std.specs.Prelude.{Bool, ℕ, ◌≤◌};
+
+    ghost Value = { Bool × ℕ };
+
+    ghost view = { λ s. (s.minus, s.value) };
+
+    ghost invariant = { λ s. s.value ≤ 9999999999 };
+
+    ghost inverse = { λ s. record { minus = s.0; value = s.1 } };
+}
+
+impl From<Count> for i64 {
+    ghost from_gives = { λ s z. (s.0 ≡ true → 1 ≤ s.1) → z ≡ signed s.0 s.1 };
+
+    fn from(count: Count) -> i64 {
+        let value = count.value as i64;
+        if count.minus { -value } else { value }
+    }
+}
+
+/// A place where a field begins. It may lie past the text's end, by no more than a line's fields reach.
+#[derive(Clone, Copy)]
+struct Field<'a> {
+    text: &'a [u8],
+    at: usize,
+    ghost near: { at ≤ length text.now + 16 },
+}
+
+impl<'a> Field<'a> {
+    /// The byte `k` places on, and 0 past the text's end.
+    // stays: how far a place may be is said where it is asked for; a type for it would be made from a loop's number each time
+    fn byte(self, k: usize) -> u8
+        requires { k ≤ 9 }
+        ensures { result ≡ the_byte self.entry.text.now (self.entry.at + k) }
+    {
+        self.text.get(self.at + k).copied().unwrap_or(0)
+    }
+
+    /// The refusal of that byte.
+    fn bad(self, k: usize) -> BadByte
+        requires { k ≤ 9 }
+        ensures { result.place ≡ self.entry.at + k }
+    {
+        BadByte { place: self.at + k }
+    }
+
+    /// One of the five places of a number, after places of the value `v`.
+    fn place(self, k: usize, v: u32) -> Result<u32, BadByte>
+        requires within { k ≤ 4 }
+        requires low { v ≤ 99999 }
+        ensures answer { result ≡ place_at self.entry.text.now (self.entry.at + k) (4 - k) v }
+        ensures small { IfOk result (λ w. w ≤ v * 10 + 9) }
+    {
+        let after = 4 - k;
+        let b = self.byte(k);
+        if b.is_ascii_digit() && !(v == 0 && b == b'0' && after != 0) {
+            Ok(v * 10 + (b - b'0') as u32)
+        } else if b == b' ' && v == 0 && after != 0 {
+            Ok(v)
+        } else {
+            Err(self.bad(k))
+        }
+    }
+
+    /// Whether the first three of five characters are blank: most numbers have at most two digits.
+    fn is_short(self) -> bool
+        ensures within { result ≡ true → self.entry.at + 5 ≤ length self.entry.text.now }
+        ensures first { result ≡ true → slice_index self.entry.text.now self.entry.at ≡ 32 }
+        ensures second { result ≡ true → slice_index self.entry.text.now (self.entry.at + 1) ≡ 32 }
+        ensures third { result ≡ true → slice_index self.entry.text.now (self.entry.at + 2) ≡ 32 }
+    {
+        matches!(
+            self.text.get(self.at..self.at + 5),
+            Some([b' ', b' ', b' ', _, _])
+        )
+    }
+
+    /// The last two of five characters, after blanks.
+    fn last_places(self) -> Result<u32, BadByte>
+        ensures { result ≡ number_from self.entry.text.now (self.entry.at + 3) 2 0 }
+    {
+        let v = self.place(3, 0)?;
+        self.place(4, v)
+    }
+
+    /// All five characters of a number. Few numbers come here, so it stays out of what reads the others.
+    #[inline(never)]
+    fn places(self) -> Result<u32, BadByte>
+        ensures { result ≡ number_at self.entry.text.now self.entry.at }
+    {
+        let mut v = 0;
+        for k in 0..5 {
+            v = self.place(k, v)?;
+        }
         Ok(v)
-    } else {
-        Err(i)
     }
-}
 
-/// Whether the first three of five characters are blank: most numbers have at most two digits.
-fn is_short(text: &[u8], at: usize) -> bool
-    requires { at ≤ length text.now + 16 }
-    ensures within { result ≡ true → at + 5 ≤ length text.now }
-    ensures first { result ≡ true → slice_index text.now at ≡ 32 }
-    ensures second { result ≡ true → slice_index text.now (at + 1) ≡ 32 }
-    ensures third { result ≡ true → slice_index text.now (at + 2) ≡ 32 }
-{
-    if at + 5 > text.len() {
-        return false;
+    /// A number in five characters.
+    fn number(self) -> Result<u32, BadByte>
+        ensures { result ≡ number_at self.entry.text.now self.entry.at }
+    {
+        if self.is_short() {
+            self.last_places()
+        } else {
+            self.places()
+        }
     }
-    if text[at] != 32 || text[at + 1] != 32 || text[at + 2] != 32 {
-        return false;
+
+    /// One of the ten places of a row count, after what `s` tells.
+    fn mark(self, k: usize, s: Count) -> Result<Count, BadByte>
+        requires within { k ≤ 9 }
+        requires low { s.1 ≤ 999999999 }
+        ensures answer { result ≡ mark_at self.entry.text.now (self.entry.at + k) (9 - k) s }
+        ensures small { IfOk result (λ w. w.1 ≤ s.1 * 10 + 9) }
+        ensures below { IfOk result (λ w. k ≡ 9 → w.0 ≡ true → 1 ≤ w.1) }
+    {
+        let after = 9 - k;
+        let b = self.byte(k);
+        let Count { minus, value } = s;
+        if b.is_ascii_digit() && !(value == 0 && b == b'0' && (minus || after != 0)) {
+            Ok(Count {
+                minus,
+                value: value * 10 + (b - b'0') as u64,
+            })
+        } else if b == b' ' && value == 0 && after != 0 && !minus {
+            Ok(Count {
+                minus: false,
+                value,
+            })
+        } else if b == b'-' && !minus && value == 0 && after != 0 {
+            Ok(Count { minus: true, value })
+        } else {
+            Err(self.bad(k))
+        }
     }
-    true
-}
 
-/// The last two of five characters, after blanks.
-fn last_places(text: &[u8], at: usize) -> Result<u32, usize>
-    requires { at ≤ length text.now + 16 }
-    ensures { result ≡ last_places_at text.now at }
-{
-    let v = place(text, at + 3, 1, 0)?;
-    place(text, at + 4, 0, v)
-}
-
-/// All five characters of a number.
-fn places(text: &[u8], at: usize) -> Result<u32, usize>
-    requires { at ≤ length text.now + 16 }
-    ensures { result ≡ places_at text.now at }
-{
-    let v = place(text, at, 4, 0)?;
-    let v = place(text, at + 1, 3, v)?;
-    let v = place(text, at + 2, 2, v)?;
-    let v = place(text, at + 3, 1, v)?;
-    place(text, at + 4, 0, v)
-}
-
-/// A number in five characters.
-fn number(text: &[u8], at: usize) -> Result<u32, usize>
-    requires { at ≤ length text.now + 16 }
-    ensures { result ≡ places_at text.now at }
-{
-    if is_short(text, at) {
-        last_places(text, at)
-    } else {
-        places(text, at)
+    /// The first five characters of a row count. Most counts have at most five digits.
+    fn first_marks(self) -> Result<Count, BadByte>
+        ensures rest { count_at self.entry.text.now self.entry.at ≡ then result (marks_left self.entry.text.now self.entry.at) }
+        ensures small { IfOk result (λ s. s.1 ≤ 99999) }
+    {
+        let mut s = Count {
+            minus: false,
+            value: 0,
+        };
+        if self.is_unused() {
+            return Ok(s);
+        }
+        for k in 0..5 {
+            s = self.mark(k, s)?;
+        }
+        Ok(s)
     }
-}
 
-/// One place of a row count: whether a minus sign has been read, and the value so far.
-fn mark(text: &[u8], i: usize, after: u32, s: (bool, u64)) -> Result<(bool, u64), usize>
-    requires { s.1 ≤ 9999999999 }
-    ensures answer { result ≡ mark_at text.now i after s }
-    ensures small { IfOk result (λ w. w.1 ≤ s.1 * 10 + 9) }
-    ensures below { IfOk result (λ w. after ≡ 0 → w.0 ≡ true → 1 ≤ w.1) }
-{
-    let b = byte(text, i);
-    let (minus, v) = s;
-    if b >= 48 && b <= 57 && !(v == 0 && b == 48 && (minus || after != 0)) {
-        Ok((minus, v * 10 + (b - 48) as u64))
-    } else if b == 32 && v == 0 && after != 0 && !minus {
-        Ok((false, v))
-    } else if b == 45 && !minus && v == 0 && after != 0 {
-        Ok((true, v))
-    } else {
-        Err(i)
+    /// A row count in ten characters.
+    fn count(self) -> Result<i64, BadByte>
+        ensures { result ≡ count_at self.entry.text.now self.entry.at }
+    {
+        let mut s = self.first_marks()?;
+        for k in 5..10 {
+            s = self.mark(k, s)?;
+        }
+        Ok(i64::from(s))
     }
-}
 
-/// The first five characters of a row count. Most counts have at most five digits.
-fn first_marks(text: &[u8], at: usize) -> Result<(bool, u64), usize>
-    requires { at ≤ length text.now + 16 }
-    ensures answer { result ≡ first_marks_at text.now at }
-    ensures small { IfOk result (λ w. w.1 ≤ 99999) }
-{
-    if is_short(text, at) && text[at + 3] == 32 && text[at + 4] == 32 {
-        return Ok((false, 0));
+    /// One blank.
+    fn blank(self, k: usize) -> Result<(), BadByte>
+        requires { k ≤ 4 }
+        ensures { result ≡ blank_at self.entry.text.now (self.entry.at + k) }
+    {
+        if self.byte(k) == b' ' {
+            Ok(())
+        } else {
+            Err(self.bad(k))
+        }
     }
-    let s = mark(text, at, 9, (false, 0))?;
-    let s = mark(text, at + 1, 8, s)?;
-    let s = mark(text, at + 2, 7, s)?;
-    let s = mark(text, at + 3, 6, s)?;
-    mark(text, at + 4, 5, s)
-}
 
-/// The last five.
-fn last_marks(text: &[u8], at: usize, s: (bool, u64)) -> Result<(bool, u64), usize>
-    requires { (at ≤ length text.now + 16) × (s.1 ≤ 99999) }
-    ensures answer { result ≡ last_marks_at text.now at s }
-    ensures small { IfOk result (λ w. w.1 ≤ 9999999999) }
-    ensures below { IfOk result (λ w. w.0 ≡ true → 1 ≤ w.1) }
-{
-    let s = mark(text, at + 5, 4, s)?;
-    let s = mark(text, at + 6, 3, s)?;
-    let s = mark(text, at + 7, 2, s)?;
-    let s = mark(text, at + 8, 1, s)?;
-    mark(text, at + 9, 0, s)
-}
-
-/// A row count in ten characters.
-fn marks(text: &[u8], at: usize) -> Result<(bool, u64), usize>
-    requires { at ≤ length text.now + 16 }
-    ensures answer { result ≡ marks_at text.now at }
-    ensures small { IfOk result (λ w. w.1 ≤ 9999999999) }
-    ensures below { IfOk result (λ w. w.0 ≡ true → 1 ≤ w.1) }
-{
-    let s = first_marks(text, at)?;
-    last_marks(text, at, s)
-}
-
-/// One blank.
-fn blank(text: &[u8], i: usize) -> Result<(), usize>
-    ensures { result ≡ blank_at text.now i }
-{
-    if byte(text, i) == 32 { Ok(()) } else { Err(i) }
-}
-
-/// Whether all of five characters are blank.
-fn is_unused(text: &[u8], at: usize) -> bool
-    requires { at ≤ length text.now + 16 }
-    ensures { result ≡ true → blanks_at text.now at ≡ Ok tt }
-{
-    if !is_short(text, at) {
-        return false;
+    /// Whether all of five characters are blank.
+    fn is_unused(self) -> bool
+        ensures { result ≡ true → Blank self.entry.text.now self.entry.at }
+    {
+        matches!(
+            self.text.get(self.at..self.at + 5),
+            Some([b' ', b' ', b' ', b' ', b' '])
+        )
     }
-    if text[at + 3] != 32 || text[at + 4] != 32 {
-        return false;
-    }
-    true
-}
 
-/// Five blanks, one after another.
-fn blanks(text: &[u8], at: usize) -> Result<(), usize>
-    requires { at ≤ length text.now + 16 }
-    ensures { result ≡ blanks_at text.now at }
-{
-    blank(text, at)?;
-    blank(text, at + 1)?;
-    blank(text, at + 2)?;
-    blank(text, at + 3)?;
-    blank(text, at + 4)
-}
-
-/// An unused field: five blanks.
-fn unused(text: &[u8], at: usize) -> Result<(), usize>
-    requires { at ≤ length text.now + 16 }
-    ensures { result ≡ blanks_at text.now at }
-{
-    if is_unused(text, at) {
+    /// Five blanks, one after another.
+    fn blanks(self) -> Result<(), BadByte>
+        ensures { result ≡ unused_at self.entry.text.now self.entry.at }
+    {
+        for k in 0..5 {
+            self.blank(k)?;
+        }
         Ok(())
-    } else {
-        blanks(text, at)
+    }
+
+    /// An unused field: five blanks.
+    fn unused(self) -> Result<(), BadByte>
+        ensures { result ≡ unused_at self.entry.text.now self.entry.at }
+    {
+        if self.is_unused() {
+            Ok(())
+        } else {
+            self.blanks()
+        }
+    }
+
+    /// A number, or five blanks.
+    fn optional(self) -> Result<Option<u32>, BadByte>
+        ensures { result ≡ optional_at self.entry.text.now self.entry.at }
+    {
+        if self.unused().is_ok() {
+            return Ok(None);
+        }
+        let v = self.number()?;
+        Ok(Some(v))
     }
 }
 
-/// A value with its sign.
-fn signed(minus: bool, v: u64) -> i64
-    requires { (v ≤ 9999999999) × ((minus ≡ true → 1 ≤ v)) }
-    ensures { result ≡ the_signed minus v }
-{
-    if minus { -(v as i64) } else { v as i64 }
+/// The place of a line's letter, which lies in the text.
+#[derive(Clone, Copy)]
+struct Start<'a> {
+    text: &'a [u8],
+    at: usize,
+    ghost inside: { at < length text.now },
 }
 
-/// A number, or five blanks.
-fn optional(text: &[u8], at: usize) -> Result<Option<u32>, usize>
-    requires { at ≤ length text.now + 16 }
-    ensures { result ≡ or_number (blanks_at text.now at) (places_at text.now at) }
-{
-    if unused(text, at).is_ok() {
-        return Ok(None);
+impl<'a> Start<'a> {
+    /// The field of that number, from 0 on.
+    fn field(self, number: usize) -> Field<'a>
+        requires { number ≤ 2 }
+        ensures text { result.text.now ≡ self.entry.text.now }
+        ensures at { result.at ≡ self.entry.at + 1 + 5 * number }
+    {
+        Field {
+            text: self.text,
+            at: self.at + 1 + 5 * number,
+        }
     }
-    let v = number(text, at)?;
-    Ok(Some(v))
-}
 
-/// How the fields after a letter are laid out, or none where it is not a listed one.
-fn layout(letter: char) -> Option<Layout>
-    ensures { result ≡ the_layout letter }
-{
-    match letter {
-        'H' | 'T' | 'N' | 'D' | 'X' => Some(Layout::Three),
-        'E' | 'J' | 'M' => Some(Layout::LastTwo),
-        'G' => Some(Layout::FirstTwo),
-        'R' => Some(Layout::Counted),
-        'P' => Some(Layout::Single),
-        _ => None,
+    /// Three numbers.
+    #[tactic(auto, unfolding(lines::specs::Read::fields_at))]
+    fn three(self) -> Result<Fields, BadByte>
+        ensures { result ≡ fields_at Layout.Three self.entry.text.now (self.entry.at + 1) }
+    {
+        let a = self.field(0).number()?;
+        let b = self.field(1).number()?;
+        let c = self.field(2).number()?;
+        Ok(Fields::Three(a, b, c))
     }
-}
 
-fn three(text: &[u8], at: usize) -> Result<Fields, usize>
-    requires { at ≤ length text.now }
-    ensures { result ≡ three_at text.now at }
-{
-    let a = number(text, at)?;
-    let b = number(text, at + 5)?;
-    let c = number(text, at + 10)?;
-    Ok(Fields::Three(a, b, c))
-}
-
-fn last_two(text: &[u8], at: usize) -> Result<Fields, usize>
-    requires { at ≤ length text.now }
-    ensures { result ≡ last_two_at text.now at }
-{
-    unused(text, at)?;
-    let v = number(text, at + 5)?;
-    let w = number(text, at + 10)?;
-    Ok(Fields::LastTwo(v, w))
-}
-
-fn first_two(text: &[u8], at: usize) -> Result<Fields, usize>
-    requires { at ≤ length text.now }
-    ensures { result ≡ first_two_at text.now at }
-{
-    let a = number(text, at)?;
-    let b = number(text, at + 5)?;
-    unused(text, at + 10)?;
-    Ok(Fields::FirstTwo(a, b))
-}
-
-fn counted(text: &[u8], at: usize) -> Result<Fields, usize>
-    requires { at ≤ length text.now }
-    ensures { result ≡ counted_at text.now at }
-{
-    let t = number(text, at)?;
-    let (minus, v) = marks(text, at + 5)?;
-    Ok(Fields::Counted(t, signed(minus, v)))
-}
-
-fn single(text: &[u8], at: usize) -> Result<Fields, usize>
-    requires { at ≤ length text.now }
-    ensures { result ≡ single_at text.now at }
-{
-    let o = optional(text, at)?;
-    unused(text, at + 5)?;
-    unused(text, at + 10)?;
-    Ok(Fields::Single(o))
-}
-
-/// The fields of a layout.
-fn fields(layout: Layout, text: &[u8], at: usize) -> Result<Fields, usize>
-    requires { at ≤ length text.now }
-    ensures { result ≡ fields_at layout text.now at }
-{
-    match layout {
-        Layout::Three => three(text, at),
-        Layout::LastTwo => last_two(text, at),
-        Layout::FirstTwo => first_two(text, at),
-        Layout::Counted => counted(text, at),
-        Layout::Single => single(text, at),
+    /// An unused field, then two numbers.
+    #[tactic(auto, unfolding(lines::specs::Read::fields_at))]
+    fn last_two(self) -> Result<Fields, BadByte>
+        ensures { result ≡ fields_at Layout.LastTwo self.entry.text.now (self.entry.at + 1) }
+    {
+        self.field(0).unused()?;
+        let v = self.field(1).number()?;
+        let w = self.field(2).number()?;
+        Ok(Fields::LastTwo(v, w))
     }
-}
 
-/// The line of the letter at `at`.
-fn line(text: &[u8], at: usize) -> Result<Line, usize>
-    requires { at < length text.now }
-    ensures answer { result ≡ line_in text.now at (the_layout (the_byte text.now at)) }
-    ensures within { OnOk result (at + 17 ≤ length text.now) }
-{
-    let letter = byte(text, at) as char;
-    let Some(layout) = layout(letter) else {
-        return Err(at);
-    };
-    let fields = fields(layout, text, at + 1)?;
-    if byte(text, at + 16) == 10 {
-        Ok(Line { letter, fields })
-    } else {
-        Err(at + 16)
+    /// Two numbers, then an unused field.
+    #[tactic(auto, unfolding(lines::specs::Read::fields_at))]
+    fn first_two(self) -> Result<Fields, BadByte>
+        ensures { result ≡ fields_at Layout.FirstTwo self.entry.text.now (self.entry.at + 1) }
+    {
+        let a = self.field(0).number()?;
+        let b = self.field(1).number()?;
+        self.field(2).unused()?;
+        Ok(Fields::FirstTwo(a, b))
+    }
+
+    /// A number, then a row count.
+    #[tactic(auto, unfolding(lines::specs::Read::fields_at))]
+    fn counted(self) -> Result<Fields, BadByte>
+        ensures { result ≡ fields_at Layout.Counted self.entry.text.now (self.entry.at + 1) }
+    {
+        let table = self.field(0).number()?;
+        let count = self.field(1).count()?;
+        Ok(Fields::Counted(table, count))
+    }
+
+    /// A number or an unused field, then two unused fields.
+    #[tactic(auto, unfolding(lines::specs::Read::fields_at))]
+    fn single(self) -> Result<Fields, BadByte>
+        ensures { result ≡ fields_at Layout.Single self.entry.text.now (self.entry.at + 1) }
+    {
+        let o = self.field(0).optional()?;
+        self.field(1).unused()?;
+        self.field(2).unused()?;
+        Ok(Fields::Single(o))
+    }
+
+    /// The fields of a layout.
+    fn fields(self, layout: Layout) -> Result<Fields, BadByte>
+        ensures { result ≡ fields_at layout self.entry.text.now (self.entry.at + 1) }
+    {
+        match layout {
+            Layout::Three => self.three(),
+            Layout::LastTwo => self.last_two(),
+            Layout::FirstTwo => self.first_two(),
+            Layout::Counted => self.counted(),
+            Layout::Single => self.single(),
+        }
+    }
+
+    /// The line.
+    #[tactic(auto, unfolding(lines::specs::Read::line_at))]
+    fn line(self) -> Result<Line, BadByte>
+        ensures answer { result ≡ line_at self.entry.text.now self.entry.at }
+        ensures within { OnOk result (self.entry.at + 17 ≤ length self.entry.text.now) }
+    {
+        let letter = self.text[self.at] as char;
+        let Ok(layout) = Layout::try_from(letter) else {
+            return Err(BadByte { place: self.at });
+        };
+        let fields = self.fields(layout)?;
+        if self.text.get(self.at + 16) == Some(&b'\n') {
+            Ok(Line { letter, fields })
+        } else {
+            Err(BadByte {
+                place: self.at + 16,
+            })
+        }
     }
 }
 
-/// The line that begins at `at`, or the place of the first byte that no line begun so can have: the text's end where the
-/// line is cut off.
-pub fn read_line(text: &[u8], at: usize) -> Result<Line, usize>
+/// The line that begins at `at`, or the first byte that no line begun so can have: the place of the text's end where the line
+/// is cut off.
+// stays: callers have any text and any place; the types within have those that lie in it
+pub fn read_line(text: &[u8], at: usize) -> Result<Line, BadByte>
     // line by line as the definition reads
     ensures answer { result ≡ line_at text.now at }
     // in other words: the line whose text stands there, or the end of the longest beginning of some line
@@ -312,8 +358,8 @@ pub fn read_line(text: &[u8], at: usize) -> Result<Line, usize>
     ensures within { OnOk result (at + 17 ≤ length text.now) }
 {
     if at < text.len() {
-        line(text, at)
+        Start { text, at }.line()
     } else {
-        Err(at)
+        Err(BadByte { place: at })
     }
 }

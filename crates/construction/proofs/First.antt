@@ -1,9 +1,9 @@
 -- The first refusal of a list of conditions, taken apart: what an accepted front and a refused front say.
-use Rattle.std.proofs.Common.{◌≡◌, ℕ, Bool, true, false, cond, List, [], ◌∷◌, ◌++◌, Ok, Err, Result, sym, refl, ap, ◌∙◌, arith}
+use Rattle.std.proofs.Common.{◌≡◌, Bool, true, false, cond, List, [], ◌∷◌, ◌++◌, Ok, Err, Result, sym, refl, ap, ◌∙◌}
 use Rattle.graph.specs.First.{refused_first}
 
 pub ok_err : {F : Type 0} (f : F) → ◌≡◌ {A = Result Unit F} (Ok tt) (Err f) → ⊥
-ok_err f e = let z : ◌≡◌ {A = ℕ} 0 1 = cc in omega arith
+ok_err f e = cc
 
 -- the first condition does not hold
 pub past : {F : Type 0} (b : Bool) (f : F) (x : Result Unit F) → cond b (Err f) x ≡ Ok tt → (b ≡ false) × (x ≡ Ok tt)

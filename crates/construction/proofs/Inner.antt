@@ -1,5 +1,7 @@
 -- The steps of the replay's inner functions, over plain values: what their answers and their graphs come to.
-use Rattle.std.proofs.Common.{◌≡◌, ℕ, zero, suc, ◌+◌, ◌-◌, ◌<◌, ◌≤◌, Bool, true, false, cond, not, ◌&&◌, ◌||◌, eqb, ltb, leb, List, [], ◌∷◌, length, get_or, set, replicate, Ok, Err, Result, sym, refl, ap, ◌∙◌, ⊎_elim, arith, get_or-set_other, get_or-set_same}
+use Rattle.std.proofs.Common.{◌≡◌, ℕ, zero, suc, ◌+◌, ◌-◌, ◌<◌, ◌≤◌, Bool, true, false, cond, not, ◌&&◌, ◌||◌, eqb, ltb, leb, List, [], ◌∷◌, length, get_or, set, take, replicate, Ok, Err, Result, sym, refl, ap, ◌∙◌, subst, ⊎_elim, arith, get_or-set_other, get_or-set_same, length-take}
+use Rattle.std.specs.List.{AllWithin, HoldsAt}
+use Rattle.std.proofs.lemmas.List.{get_or-take}
 use Rattle.std.proofs.lemmas.Bool.Decides.{nat_tests}
 use Rattle.std.proofs.lemmas.Bool.{cases_Bool, cases_eq, both_ways, not-false, ltb-true, ltb-false, eqb-false, and_parts, eq-eqb, ne_eqb, lt-ltb, lt-leb}
 use Rattle.theory.specs.Graph.{Graph, Simple, joined, joining, is_table, size, some_join}
@@ -11,10 +13,10 @@ use Rattle.graph.specs.First.{refused_first}
 use Rattle.graph.specs.Store.{join_answer, unjoin_answer, after}
 use Rattle.graph.specs.declared.fault.StoreFault.{StoreFault}
 use Rattle.graph.specs.declared.fault.StoreFault.TheVariants.{UnknownTable, SameTable, AlreadyJoined, NotJoined, Full}
-use Rattle.refusals.specs.Fault.{marked}
+use Rattle.graph.specs.Fault.{marked}
 use Rattle.construction.specs.Replay.{start_answer, started, step_answer, step_after, close_from}
 use Rattle.construction.specs.Inner.{flagged, building, left, WithinUse, triangle_answer, corners, edge_used, node_conditions, node_judged, held_answer, splice_conditions, splice_answer, spliced}
-use Rattle.refusals.specs.declared.fault.AtStep.{AtStep}
+use Rattle.graph.specs.declared.fault.At.{At}
 use Rattle.refusals.specs.declared.fault.ReplayFault.{ReplayFault}
 use Rattle.refusals.specs.declared.fault.ReplayFault.TheVariants.{Store, HasJoins, NotTriangle, InUse, NotInUse, Unused}
 use Rattle.construction.proofs.First.{ok_err, past, first_on, first_off}
@@ -28,29 +30,29 @@ carried k (Err f) = Err (Store k f)
 
 pub ok_back : (k : ℕ) (r : Result Unit StoreFault) (u : Unit) → marked k r ≡ Ok u → r ≡ Ok tt
 ok_back k (Ok v) u e = refl
-ok_back k (Err f) u e = let z : ◌≡◌ {A = ℕ} 0 1 = cc in absurd (omega arith)
+ok_back k (Err f) u e = cc
 
-err_back : (k : ℕ) (r : Result Unit StoreFault) (a : AtStep) → marked k r ≡ Err a → (r ≡ Err a.fault) × (a.step ≡ k)
-err_back k (Ok v) a e = let z : ◌≡◌ {A = ℕ} 0 1 = cc in absurd (omega arith)
+err_back : (k : ℕ) (r : Result Unit StoreFault) (a : At StoreFault) → marked k r ≡ Err a → (r ≡ Err a.fault) × (a.place ≡ k)
+err_back k (Ok v) a e = cc
 err_back k (Err f) a e =
-    let i : record { step = k; fault = f } ≡ a = cc in
-    (ap (λ (b : AtStep). Err b.fault) i, sym (ap (λ (b : AtStep). b.step) i))
+    let i : record { place = k; fault = f } ≡ a = cc in
+    (ap (λ (b : At StoreFault). Err b.fault) i, sym (ap (λ (b : At StoreFault). b.place) i))
 
-module _ (k : ℕ) (r : Result Unit StoreFault) (o : Result Unit AtStep) (marks : o ≡ marked k r) where
+module _ (k : ℕ) (r : Result Unit StoreFault) (o : Result Unit (At StoreFault)) (marks : o ≡ marked k r) where
   -- after `?`
   pub passed : (u : Unit) → o ≡ Ok u → r ≡ Ok tt
   passed u e = ok_back k r u (sym marks ∙ e)
 
   -- at the exit of `?`
-  pub refused : (a : AtStep) → o ≡ Err a → r ≡ Err a.fault
+  pub refused : (a : At StoreFault) → o ≡ Err a → r ≡ Err a.fault
   refused a e = (err_back k r a (sym marks ∙ e)).0
 
-  pub passed_on : (a : AtStep) (y : ReplayFault) (final : Result Unit ReplayFault) → o ≡ Err a → final ≡ Err y → y ≡ Store a.step a.fault → final ≡ carried k r
+  pub passed_on : (a : At StoreFault) (y : ReplayFault) (final : Result Unit ReplayFault) → o ≡ Err a → final ≡ Err y → y ≡ Store a.place a.fault → final ≡ carried k r
   passed_on a y final broke gave by =
       let back = err_back k r a (sym marks ∙ broke) in
       gave ∙ ap (λ z. Err z) (by ∙ ap (λ j. Store j a.fault) back.1) ∙ sym (ap (carried k) back.0)
 
-  pub never : (a : AtStep) → r ≡ Ok tt → o ≡ Err a → ⊥
+  pub never : (a : At StoreFault) → r ≡ Ok tt → o ≡ Err a → ⊥
   never a ok e = ok_err a.fault (sym ok ∙ refused a e)
 
 -- the graph after an accepted edit
@@ -234,10 +236,7 @@ edge_stops k v w c y true true false false q j f h = h
 edge_stops k v w c y true true false true false j f h = h
 edge_stops k v w c y true true false true true j f h = absurd (ok_err y h)
 
-module _ (c k : ℕ) (m : Graph) (U : ℕ → Bool) (v w n : ℕ) (judged : Result Unit ReplayFault) (tables : n ≡ m.tables) (is : judged ≡ edge_used n U k v w) where
-  is_at : judged ≡ edge_used m.tables U k v w
-  is_at = is ∙ ap (λ j. edge_used j U k v w) tables
-
+module _ (c k : ℕ) (m : Graph) (U : ℕ → Bool) (v w : ℕ) (judged : Result Unit ReplayFault) (is : judged ≡ edge_used m.tables U k v w) where
   -- the flags refuse
   pub edge_judged : (a y : ReplayFault) (final : Result Unit ReplayFault) → judged ≡ Err a → final ≡ Err y → y ≡ a
       → (final ≡ step_answer c k (building m U) (Edge v w))
@@ -245,14 +244,14 @@ module _ (c k : ℕ) (m : Graph) (U : ℕ → Bool) (v w n : ℕ) (judged : Resu
   unfolding step_answer
   edge_judged a y final broke gave by =
       let e : final ≡ Err a = gave ∙ ap (λ z. Err z) by in (
-        e ∙ sym (edge_stops k v w c a (is_table m v) (is_table m w) (eqb v w) (U v) (U w) (joined m v w) (leb c (size m)) (sym is_at ∙ broke)),
+        e ∙ sym (edge_stops k v w c a (is_table m v) (is_table m w) (eqb v w) (U v) (U w) (joined m v w) (leb c (size m)) (sym is ∙ broke)),
         sym (ap (λ r. left r (step_after (building m U) (Edge v w)) (building m U)) e),
       )
 
   -- the flags accept, so that the store's answer is the step's
   pub edge_carried : judged ≡ Ok tt → step_answer c k (building m U) (Edge v w) ≡ carried k (join_answer m c v w)
   unfolding step_answer
-  edge_carried ok = edge_flat k v w c (is_table m v) (is_table m w) (eqb v w) (U v) (U w) (joined m v w) (leb c (size m)) (sym is_at ∙ ok)
+  edge_carried ok = edge_flat k v w c (is_table m v) (is_table m w) (eqb v w) (U v) (U w) (joined m v w) (leb c (size m)) (sym is ∙ ok)
 
 pub edge_refused : (c k : ℕ) (m m' : Graph) (U : ℕ → Bool) (v w : ℕ) (r : Result Unit StoreFault) (f : StoreFault) (final : Result Unit ReplayFault)
     → step_answer c k (building m U) (Edge v w) ≡ carried k (join_answer m c v w)
@@ -348,20 +347,17 @@ module _ (c k : ℕ) (m : Graph) (u v w : ℕ) where
   pub spliced_ok : m.adj v w ≡ true → size m < c → Ok tt ≡ splice_answer m c k v w
   spliced_ok held room = sym (rw (held, lt-leb c (size m) room))
 
-module _ (c k : ℕ) (m : Graph) (U : ℕ → Bool) (u v w n : ℕ) (judged : Result Unit ReplayFault) (tables : n ≡ m.tables) (is : judged ≡ node_judged n U k u v w) where
-  node_is_at : judged ≡ node_judged m.tables U k u v w
-  node_is_at = is ∙ ap (λ j. node_judged j U k u v w) tables
-
+module _ (c k : ℕ) (m : Graph) (U : ℕ → Bool) (u v w : ℕ) (judged : Result Unit ReplayFault) (is : judged ≡ node_judged m.tables U k u v w) where
   pub node_named : judged ≡ Ok tt → Named m.tables U u v w
-  node_named ok = well_named m.tables U k u v w (sym node_is_at ∙ ok)
+  node_named ok = well_named m.tables U k u v w (sym is ∙ ok)
 
   node_on : judged ≡ Ok tt → step_answer c k (building m U) (Node u v w) ≡ splice_answer m c k v w
   unfolding step_answer
-  node_on ok = first_on (node_conditions m.tables U k u v w) (splice_conditions m c k v w) (sym node_is_at ∙ ok)
+  node_on ok = first_on (node_conditions m.tables U k u v w) (splice_conditions m c k v w) (sym is ∙ ok)
 
   node_off : (f : ReplayFault) → judged ≡ Err f → step_answer c k (building m U) (Node u v w) ≡ Err f
   unfolding step_answer
-  node_off f e = first_off (node_conditions m.tables U k u v w) (splice_conditions m c k v w) f (sym node_is_at ∙ e)
+  node_off f e = first_off (node_conditions m.tables U k u v w) (splice_conditions m c k v w) f (sym is ∙ e)
 
   -- the tables are refused
   pub node_refused : (a y : ReplayFault) (final : Result Unit ReplayFault) → judged ≡ Err a → final ≡ Err y → y ≡ a
@@ -405,3 +401,28 @@ close_stops n t U l down =
 
 pub close_ends : (n t : ℕ) (U : ℕ → Bool) → n ≤ t → close_from t (n - t) U ≡ Ok tt
 close_ends n t U l = let e : n - t ≡ 0 = omega arith in ap (λ k. close_from t k U) e
+
+-- all tables below t are in use
+close_at : (n t : ℕ) (U : ℕ → Bool) → t ≤ n → ((k : ℕ) → k < t → U k ≡ true) → close_from 0 n U ≡ close_from t (n - t) U
+close_at n zero U l up = let e : n ≡ n - 0 = omega arith in ap (λ k. close_from 0 k U) e
+close_at n (suc t) U l up =
+    let e : t + 1 ≡ suc t = omega arith in
+    close_at n t U (omega arith) (λ k h. up k (omega arith)) ∙ close_more n t U (omega arith) (up t (omega arith)) ∙ ap (λ k. close_from k (n - k) U) e
+
+module _ (n : ℕ) (f : List Bool) (long : n ≤ length f) where
+  -- what holds of the flags that are looked at, by table
+  looked : (t k : ℕ) → t ≤ n → k < t → AllWithin (λ b. b ≡ true) (take n f) 0 t → flagged f k ≡ true
+  looked t k l h up = sym (get_or-take n f k false (omega arith)) ∙ up k false (omega arith) h
+
+  pub close_some : (t : ℕ) → (t < length (take n f)) × HoldsAt (λ b. b ≡ false) (take n f) t × AllWithin (λ b. b ≡ true) (take n f) 0 t
+      → Err (Unused t) ≡ close_from 0 n (flagged f)
+  close_some t first =
+      let l : t < n = omega (arith, length-take n f, first.0) in
+      let down : flagged f t ≡ false = sym (get_or-take n f t false l) ∙ first.1 false in
+      sym (close_at n t (flagged f) (omega arith) (λ k h. looked t k (omega arith) h first.2) ∙ close_stops n t (flagged f) l down)
+
+  pub close_none : AllWithin (λ b. b ≡ true) (take n f) 0 (length (take n f)) → Ok tt ≡ close_from 0 n (flagged f)
+  close_none up =
+      let e : length (take n f) ≡ n = omega (arith, length-take n f) in
+      sym (close_at n n (flagged f) (omega arith) (λ k h. looked n k (omega arith) h (subst (λ t. AllWithin (λ b. b ≡ true) (take n f) 0 t) e up))
+      ∙ close_ends n n (flagged f) (omega arith))

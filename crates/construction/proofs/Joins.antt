@@ -1,5 +1,8 @@
 -- Whether a graph has joins, and when a join or an unjoin is accepted.
-use Rattle.std.proofs.Common.{◌≡◌, ℕ, ◌+◌, ◌<◌, ◌≤◌, true, false, not, ◌&&◌, ◌||◌, eqb, leb, [], ◌∷◌, Ok, sym, ap, ◌∙◌, ⊎_elim, arith}
+use Rattle.std.proofs.Common.{◌≡◌, ℕ, ◌+◌, ◌<◌, ◌≤◌, Bool, true, false, not, ◌&&◌, ◌||◌, eqb, leb, [], ◌∷◌, length, get_or, Ok, sym, ap, ◌∙◌, ⊎_elim, zero-add, arith}
+use Rattle.std.specs.Bool.{MatchBool}
+use Rattle.std.specs.List.{AllWithin, HoldsAt, range_with_len}
+use Rattle.std.proofs.lemmas.List.FromFn.{length-range_with_len, get_or-range_with_len}
 use Rattle.std.proofs.lemmas.Bool.Decides.{nat_tests}
 use Rattle.std.proofs.lemmas.Bool.{cases_Bool, both_ways, lt-ltb, ne_eqb, lt-leb, leb-false, not-false, eqb-true, or_right}
 use Rattle.theory.specs.Graph.{Graph, Simple, same_pair, joined, joining, unjoining, is_table, size, some_join}
@@ -34,6 +37,14 @@ pub some_none : (m : Graph) → Simple m → ((a b : ℕ) → a < m.tables → m
 some_none m s none =
     let z : size m ≡ 0 = no_size m (λ a b. ⊎_elim (λ e. absurd (both_ways (m.adj a b) (none a b (s.within a b e)) e)) (λ e. e) (cases_Bool (m.adj a b))) in
     grind (arith, nat_tests)
+
+-- what the look at each table finds
+pub found : (m : Graph) → Simple m → (r : Bool) → MatchBool r ((k : ℕ) × (k < length (range_with_len 0 m.tables)) × HoldsAt (λ t. (x : ℕ) × (m.adj t x ≡ true)) (range_with_len 0 m.tables) k)
+    (AllWithin (λ t. (x : ℕ) → m.adj t x ≡ false) (range_with_len 0 m.tables) 0 (length (range_with_len 0 m.tables))) → r ≡ some_join m
+found m s true at = some_yes m (get_or (range_with_len 0 m.tables) at.0 0) (at.2 0).0 s (at.2 0).1
+found m s false none =
+    some_none m s (λ a b l. let at : get_or (range_with_len 0 m.tables) a 0 ≡ 0 + a = get_or-range_with_len 0 m.tables a 0 l in
+    ap (λ t. m.adj t b) (sym (at ∙ zero-add a)) ∙ none a 0 (omega arith) (omega (arith, length-range_with_len 0 m.tables)) b)
 
 pub all_clear : (m : Graph) → Simple m → some_join m ≡ false → (a b : ℕ) → m.adj a b ≡ false
 all_clear m s e a b =

@@ -442,8 +442,8 @@ start_used : (c : ℕ) (m : Graph) (t : Triangle) (x : ℕ) → start_answer m c
 start_used c m t x = never (some_join m) (not (ltb t.a t.b && (ltb t.b t.c && is_table m t.c))) (ltb c 3)
   where
     never : (a b d : Bool) → refused_first ((a, HasJoins) ∷ (b, NotTriangle) ∷ (d, Store 0 (Full c)) ∷ []) ≡ Err (Unused x) → ⊥
-    never true b d e = let z : ◌≡◌ {A = ℕ} 0 1 = cc in omega arith
-    never false true d e = let z : ◌≡◌ {A = ℕ} 0 1 = cc in omega arith
+    never true b d e = cc
+    never false true d e = cc
     never false false true e = let z : ◌≡◌ {A = ℕ} 0 1 = cc in omega arith
     never false false false e = ok_err (Unused x) e
 
@@ -455,6 +455,16 @@ replayed_tables c m t l =
     (cases_answer (start_answer m c t))
 
 -- ---- the laws
+
+-- what a call answers and leaves, and what this amounts to
+pub record ToldLaws (c : ℕ) (m : Graph) (t : Triangle) (l : List Step) (r : Result Unit ReplayFault) (g : Graph) : Type 0 where
+  pub answer : r ≡ (replayed c m t l).told
+  pub meant : g ≡ (replayed c m t l).graph
+  pub accepted : AcceptedExactly m t l r g
+  pub room : AcceptedWithRoom c m t l r
+  pub refused : RefusedAtFirst c m t l r g
+  pub unused : UnusedTold m t l r g
+  pub start : StartTold m r g
 
 module _ (c : ℕ) (m : Graph) (t : Triangle) (l : List Step) (s : Simple m) where
   accepted_legal : m ≡ no_joins (table_count m) → (replayed c m t l).told ≡ Ok tt → LegalBuild (replayed c m t l).graph t l
@@ -570,8 +580,20 @@ module _ (c : ℕ) (m : Graph) (t : Triangle) (l : List Step) (s : Simple m) whe
     refused_at_first none f e some =
         subst (λ x. RefusedAtFirst c m t l r x) (sym meant) (subst (λ x. RefusedAtFirst c m t l x (replayed c m t l).graph) (sym answer) refused_first_step) none f e some
 
-    pub unused_told : UnusedTold m t l r g
+    unused_told : UnusedTold m t l r g
     unused_told = subst (λ x. UnusedTold m t l r x) (sym meant) (subst (λ x. UnusedTold m t l x (replayed c m t l).graph) (sym answer) unused_last)
 
-    pub start_told : StartTold m r g
+    start_told : StartTold m r g
     start_told = subst (λ x. StartTold m r x) (sym meant) (subst (λ x. StartTold m x (replayed c m t l).graph) (sym answer) start_left)
+
+    -- all that the clauses of a call owe of them
+    pub told_laws : ToldLaws c m t l r g
+    told_laws = record {
+      answer = answer;
+      meant = meant;
+      accepted = accepted_exactly;
+      room = accepted_with_room;
+      refused = refused_at_first;
+      unused = unused_told;
+      start = start_told;
+    }

@@ -2,7 +2,11 @@
 //! tables are in use. The tables in use are kept as flags; the joins are kept by the graph alone.
 //!
 //! The inner functions are small, one for each thing that is judged or done. Those that change something say in `answer`
-//! what they answer, in `meant` what they leave (a refusal changes nothing), and in `same` that the capacity stays.
+//! what they answer, in `meant` what they leave (a refusal changes nothing), and in `same` that the capacity stays. `same`
+//! stands in each of them.
+//! stays: a caller knows of a graph that it lent no more than the contract of the call says, so each says `same`. The graph and
+//! the tables in use are two parameters: of a struct with the graph in a field each method would owe, besides, that it lends
+//! the same graph on. A step's number and its tables are named one by one, as the cases of `Step` have them.
 ghost use Rattle.std.specs.Prelude.{◌≡◌, ℕ, ◌<◌, ◌≤◌, true, false, Ok, ◌≢◌};
 ghost use Rattle.theory.specs.Graph.{joined as joins, table_count, unjoining, some_join};
 ghost use Rattle.theory.specs.declared.step.Step.TheVariants.{Edge, Node};
@@ -11,21 +15,24 @@ ghost use Rattle.construction.specs.Replay.{start_answer, started, step_answer, 
 ghost use Rattle.construction.specs.Law.{AcceptedExactly, AcceptedWithRoom, RefusedAtFirst, UnusedTold, StartTold};
 ghost use Rattle.construction.specs.Inner.{flagged, under_way, left, WithinUse, triangle_answer, corners, used_answer, edge_used, named_answer, node_judged, held_answer, splice_answer, spliced};
 
-use graph::fault::StoreFault;
+use graph::fault::{At, StoreFault, at_place};
 use graph::graph::{EditableGraph, ReadableGraph};
-use refusals::fault::{AtStep, ReplayFault, at_step};
+use refusals::fault::ReplayFault;
 use theory::step::{Step, Triangle};
+
+/// Whether a table has a neighbour.
+fn has_neighbour<G: ReadableGraph>(graph: &G, table: u32) -> bool
+    ensures one { result ≡ true → (x : ℕ) × (joins (G.meaning graph.now) table x ≡ true) }
+    ensures none { result ≡ false → (x : ℕ) → joins (G.meaning graph.now) table x ≡ false }
+{
+    graph.next_neighbour(table, 0).is_some()
+}
 
 /// Whether there is any join: a table that has a neighbour.
 fn has_joins<G: ReadableGraph>(graph: &G) -> bool
     ensures { result ≡ some_join (G.meaning graph.now) }
 {
-    for t in 0..graph.tables() {
-        if let Some(_) = graph.next_neighbour(t, 0) {
-            return true;
-        }
-    }
-    false
+    (0..graph.tables()).any(|table| has_neighbour(graph, table))
 }
 
 /// What stands against a triangle at the start: 10, 11 and 5.
@@ -39,7 +46,10 @@ fn judge_start(some: bool, tables: u32, capacity: u32, t: Triangle) -> Result<()
         return Err(ReplayFault::NotTriangle);
     }
     if capacity < 3 {
-        at_step(0, Err(StoreFault::Full { capacity }))?;
+        return Err(ReplayFault::Store {
+            step: 0,
+            fault: StoreFault::Full { capacity },
+        });
     }
     Ok(())
 }
@@ -51,70 +61,9 @@ fn start<G: EditableGraph>(graph: &mut G, t: Triangle) -> Result<(), ReplayFault
     ensures same { G.limit graph.new ≡ G.limit graph.old }
 {
     judge_start(has_joins(graph), graph.tables(), graph.capacity(), t)?;
-    at_step(0, graph.join(t.a, t.b))?;
-    at_step(0, graph.join(t.a, t.c))?;
-    at_step(0, graph.join(t.b, t.c))?;
-    Ok(())
-}
-
-/// The flags after the triangle: its three tables are in use.
-fn seated(t: Triangle) -> [bool; 64]
-    requires { (t.a < 64) × ((t.b < 64) × (t.c < 64)) }
-    ensures { (x : ℕ) → flagged result x ≡ corners t x }
-{
-    let mut used = [false; 64];
-    used[t.a as usize] = true;
-    used[t.b as usize] = true;
-    used[t.c as usize] = true;
-    used
-}
-
-/// 13 where a table that a step needs is not in use: `v`, or else `w`.
-fn in_use(used: &[bool; 64], step: usize, v: u32, w: u32) -> Result<(), ReplayFault>
-    requires { (v < 64) × (w < 64) }
-    ensures { result ≡ used_answer (flagged used.now) step v w }
-{
-    if !used[v as usize] {
-        Err(ReplayFault::NotInUse { step, table: v })
-    } else if !used[w as usize] {
-        Err(ReplayFault::NotInUse { step, table: w })
-    } else {
-        Ok(())
-    }
-}
-
-/// 13 for an edge step. Where the store will refuse with 1 or 2, which come first, it is left to do so.
-fn judge_edge(
-    used: &[bool; 64],
-    tables: u32,
-    step: usize,
-    v: u32,
-    w: u32,
-) -> Result<(), ReplayFault>
-    requires { tables ≤ 64 }
-    ensures { result ≡ edge_used tables (flagged used.now) step v w }
-{
-    if v < tables && w < tables && v != w {
-        in_use(used, step, v, w)
-    } else {
-        Ok(())
-    }
-}
-
-/// An edge step.
-fn take_edge<G: EditableGraph>(
-    graph: &mut G,
-    used: &[bool; 64],
-    step: usize,
-    v: u32,
-    w: u32,
-) -> Result<(), ReplayFault>
-    ensures answer { result ≡ step_answer (G.limit graph.old) step (under_way (G.ReadableGraph.meaning graph.old) used.now) (Edge v w) }
-    ensures meant { under_way (G.ReadableGraph.meaning graph.new) used.now ≡ left result (step_after (under_way (G.ReadableGraph.meaning graph.old) used.now) (Edge v w)) (under_way (G.ReadableGraph.meaning graph.old) used.now) }
-    ensures same { G.limit graph.new ≡ G.limit graph.old }
-{
-    judge_edge(used, graph.tables(), step, v, w)?;
-    at_step(step, graph.join(v, w))?;
+    at_place(0, graph.join(t.a, t.b))?;
+    at_place(0, graph.join(t.a, t.c))?;
+    at_place(0, graph.join(t.b, t.c))?;
     Ok(())
 }
 
@@ -137,23 +86,104 @@ fn named(tables: u32, u: u32, v: u32, w: u32) -> Result<(), StoreFault>
     }
 }
 
-/// What can be wrong with the tables of a node step: 1, 2, 12 and 13.
-fn judge_node(
-    used: &[bool; 64],
-    tables: u32,
+/// The tables that are in use, as flags. Judging takes the graph, whose number of tables is no more than there are flags.
+#[derive(Drop)]
+struct TablesInUse {
+    flags: [bool; 64],
+}
+
+impl TablesInUse {
+    /// Those of a triangle.
+    fn seated(t: Triangle) -> TablesInUse
+        requires { (t.a < 64) × ((t.b < 64) × (t.c < 64)) }
+        ensures { (x : ℕ) → flagged result.flags x ≡ corners t x }
+    {
+        let mut flags = [false; 64];
+        flags[t.a as usize] = true;
+        flags[t.b as usize] = true;
+        flags[t.c as usize] = true;
+        TablesInUse { flags }
+    }
+
+    /// 13 where a table that a step needs is not in use: `v`, or else `w`.
+    fn judge_ends(&self, step: usize, v: u32, w: u32) -> Result<(), ReplayFault>
+        requires { (v < 64) × (w < 64) }
+        ensures { result ≡ used_answer (flagged self.now.flags) step v w }
+    {
+        if !self.flags[v as usize] {
+            Err(ReplayFault::NotInUse { step, table: v })
+        } else if !self.flags[w as usize] {
+            Err(ReplayFault::NotInUse { step, table: w })
+        } else {
+            Ok(())
+        }
+    }
+
+    /// 13 for an edge step. Where the store will refuse with 1 or 2, which come first, it is left to do so.
+    fn judge_edge<G: ReadableGraph>(
+        &self,
+        graph: &G,
+        step: usize,
+        v: u32,
+        w: u32,
+    ) -> Result<(), ReplayFault>
+        ensures { result ≡ edge_used (table_count (G.meaning graph.now)) (flagged self.now.flags) step v w }
+    {
+        let tables = graph.tables();
+        if v < tables && w < tables && v != w {
+            self.judge_ends(step, v, w)
+        } else {
+            Ok(())
+        }
+    }
+
+    /// What can be wrong with the tables of a node step: 1, 2, 12 and 13.
+    fn judge_node<G: ReadableGraph>(
+        &self,
+        graph: &G,
+        step: usize,
+        u: u32,
+        v: u32,
+        w: u32,
+    ) -> Result<(), ReplayFault>
+        ensures { result ≡ node_judged (table_count (G.meaning graph.now)) (flagged self.now.flags) step u v w }
+    {
+        at_place(step, named(graph.tables(), u, v, w))?;
+        if self.flags[u as usize] {
+            return Err(ReplayFault::InUse { step, table: u });
+        }
+        self.judge_ends(step, v, w)
+    }
+
+    /// 14 with the lowest table that is not in use.
+    fn close<G: ReadableGraph>(&self, graph: &G) -> Result<(), ReplayFault>
+        ensures { result ≡ close_from 0 (table_count (G.meaning graph.now)) (flagged self.now.flags) }
+    {
+        let tables = graph.tables() as usize;
+        match self.flags[..tables].iter().position(|used| !used) {
+            Some(table) => Err(ReplayFault::Unused {
+                table: table as u32,
+            }),
+            None => Ok(()),
+        }
+    }
+}
+
+/// An edge step.
+fn take_edge<G: EditableGraph>(
+    graph: &mut G,
+    used: &TablesInUse,
     step: usize,
-    u: u32,
     v: u32,
     w: u32,
 ) -> Result<(), ReplayFault>
-    requires { tables ≤ 64 }
-    ensures { result ≡ node_judged tables (flagged used.now) step u v w }
+    ensures answer { result ≡ step_answer (G.limit graph.old) step (under_way (G.ReadableGraph.meaning graph.old) used.now.flags) (Edge v w) }
+    ensures meant { under_way (G.ReadableGraph.meaning graph.new) used.now.flags ≡ left result (step_after (under_way (G.ReadableGraph.meaning graph.old) used.now.flags) (Edge v w)) (under_way (G.ReadableGraph.meaning graph.old) used.now.flags) }
+    ensures same { G.limit graph.new ≡ G.limit graph.old }
 {
-    at_step(step, named(tables, u, v, w))?;
-    if used[u as usize] {
-        return Err(ReplayFault::InUse { step, table: u });
-    }
-    in_use(used, step, v, w)
+    used.judge_edge(graph, step, v, w)?;
+    at_place(step, graph.join(v, w))?;
+    Ok(())
 }
 
 /// 4 where the two tables are not joined.
@@ -167,15 +197,21 @@ fn held<G: ReadableGraph>(graph: &G, v: u32, w: u32) -> Result<(), StoreFault>
     }
 }
 
-/// Takes the join of `v` and `w` out, which is there.
-fn take_out<G: EditableGraph>(graph: &mut G, step: usize, v: u32, w: u32) -> Result<(), AtStep>
+/// Takes the join of `v` and `w` out, which is there, so that the store never refuses. What lets it be taken out stands here,
+/// apart from the answers of the two joins that are made around it.
+fn take_out<G: EditableGraph>(
+    graph: &mut G,
+    step: usize,
+    v: u32,
+    w: u32,
+) -> Result<(), At<StoreFault>>
     requires able { unjoin_answer (G.ReadableGraph.meaning graph.old) v w ≡ Ok tt }
     requires there { held_answer (G.ReadableGraph.meaning graph.old) v w ≡ Ok tt }
     ensures answer { result ≡ Ok tt }
     ensures meant { G.ReadableGraph.meaning graph.new ≡ unjoining (G.ReadableGraph.meaning graph.old) v w }
     ensures same { G.limit graph.new ≡ G.limit graph.old }
 {
-    at_step(step, graph.unjoin(v, w))?;
+    at_place(step, graph.unjoin(v, w))?;
     Ok(())
 }
 
@@ -195,62 +231,49 @@ fn splice<G: EditableGraph>(
     ensures meant { G.ReadableGraph.meaning graph.new ≡ left result (spliced (G.ReadableGraph.meaning graph.old) u v w) (G.ReadableGraph.meaning graph.old) }
     ensures same { G.limit graph.new ≡ G.limit graph.old }
 {
-    at_step(step, held(graph, v, w))?;
-    at_step(step, graph.join(u, v))?;
+    at_place(step, held(graph, v, w))?;
+    at_place(step, graph.join(u, v))?;
     take_out(graph, step, v, w)?;
-    at_step(step, graph.join(u, w))?;
+    at_place(step, graph.join(u, w))?;
     Ok(())
 }
 
 /// A node step. That every join is between tables in use tells that a table not in use has none.
 fn take_node<G: EditableGraph>(
     graph: &mut G,
-    used: &mut [bool; 64],
+    used: &mut TablesInUse,
     step: usize,
     u: u32,
     v: u32,
     w: u32,
 ) -> Result<(), ReplayFault>
-    requires { WithinUse (G.ReadableGraph.meaning graph.old) (flagged used.old) }
-    ensures answer { result ≡ step_answer (G.limit graph.old) step (under_way (G.ReadableGraph.meaning graph.old) used.old) (Node u v w) }
-    ensures meant { under_way (G.ReadableGraph.meaning graph.new) used.new ≡ left result (step_after (under_way (G.ReadableGraph.meaning graph.old) used.old) (Node u v w)) (under_way (G.ReadableGraph.meaning graph.old) used.old) }
+    requires { WithinUse (G.ReadableGraph.meaning graph.old) (flagged used.old.flags) }
+    ensures answer { result ≡ step_answer (G.limit graph.old) step (under_way (G.ReadableGraph.meaning graph.old) used.old.flags) (Node u v w) }
+    ensures meant { under_way (G.ReadableGraph.meaning graph.new) used.new.flags ≡ left result (step_after (under_way (G.ReadableGraph.meaning graph.old) used.old.flags) (Node u v w)) (under_way (G.ReadableGraph.meaning graph.old) used.old.flags) }
     ensures same { G.limit graph.new ≡ G.limit graph.old }
 {
-    judge_node(used, graph.tables(), step, u, v, w)?;
+    used.judge_node(graph, step, u, v, w)?;
     splice(graph, step, u, v, w)?;
-    used[u as usize] = true;
+    used.flags[u as usize] = true;
     Ok(())
 }
 
 /// One step of the list.
 fn take_step<G: EditableGraph>(
     graph: &mut G,
-    used: &mut [bool; 64],
+    used: &mut TablesInUse,
     number: usize,
     step: Step,
 ) -> Result<(), ReplayFault>
-    requires { WithinUse (G.ReadableGraph.meaning graph.old) (flagged used.old) }
-    ensures answer { result ≡ step_answer (G.limit graph.old) number (under_way (G.ReadableGraph.meaning graph.old) used.old) step }
-    ensures meant { under_way (G.ReadableGraph.meaning graph.new) used.new ≡ left result (step_after (under_way (G.ReadableGraph.meaning graph.old) used.old) step) (under_way (G.ReadableGraph.meaning graph.old) used.old) }
+    requires { WithinUse (G.ReadableGraph.meaning graph.old) (flagged used.old.flags) }
+    ensures answer { result ≡ step_answer (G.limit graph.old) number (under_way (G.ReadableGraph.meaning graph.old) used.old.flags) step }
+    ensures meant { under_way (G.ReadableGraph.meaning graph.new) used.new.flags ≡ left result (step_after (under_way (G.ReadableGraph.meaning graph.old) used.old.flags) step) (under_way (G.ReadableGraph.meaning graph.old) used.old.flags) }
     ensures same { G.limit graph.new ≡ G.limit graph.old }
 {
     match step {
         Step::Edge { v, w } => take_edge(graph, used, number, v, w),
         Step::Node { u, v, w } => take_node(graph, used, number, u, v, w),
     }
-}
-
-/// 14 with the lowest table that is not in use.
-fn close(used: &[bool; 64], tables: u32) -> Result<(), ReplayFault>
-    requires { tables ≤ 64 }
-    ensures { result ≡ close_from 0 tables (flagged used.now) }
-{
-    for t in 0..tables {
-        if !used[t as usize] {
-            return Err(ReplayFault::Unused { table: t });
-        }
-    }
-    Ok(())
 }
 
 /// Plays a build list into a graph, up to the first refusal. A refused step leaves the graph as the steps before it made
@@ -279,9 +302,9 @@ pub fn replay<G: EditableGraph>(
     ensures start { StartTold (G.ReadableGraph.meaning graph.old) result (G.ReadableGraph.meaning graph.new) }
 {
     start(graph, triangle)?;
-    let mut used = seated(triangle);
+    let mut used = TablesInUse::seated(triangle);
     for (i, step) in steps.iter().enumerate() {
         take_step(graph, &mut used, i + 1, *step)?;
     }
-    close(&used, graph.tables())
+    used.close(graph)
 }

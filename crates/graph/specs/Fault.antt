@@ -1,5 +1,10 @@
--- The number of each of a store's refusals, and the values that it names.
-use Rattle.std.specs.Prelude.{ℕ, List, [], ◌∷◌}
+-- The number of each of a store's refusals, and the values that it names; and any refusal with its place.
+--
+--   store_number f   its number
+--   store_values f   the tables or the amount that it names
+--   marked p r       an answer with the place p, which a refusal carries
+use Rattle.std.specs.Prelude.{ℕ, List, [], ◌∷◌, Ok, Err, Result}
+use Rattle.graph.specs.declared.fault.At.{At}
 use Rattle.graph.specs.declared.fault.StoreFault.{StoreFault}
 use Rattle.graph.specs.declared.fault.StoreFault.TheVariants.{UnknownTable, SameTable, AlreadyJoined, NotJoined, Full}
 
@@ -17,3 +22,7 @@ store_values (SameTable t) = t ∷ 0 ∷ []
 store_values (AlreadyJoined a b) = a ∷ b ∷ []
 store_values (NotJoined a b) = a ∷ b ∷ []
 store_values (Full c) = c ∷ 0 ∷ []
+
+abbrev pub marked : {F : Type 0} → ℕ → Result Unit F → Result Unit (At F)
+marked p (Ok u) = Ok u
+marked p (Err f) = Err (record { place = p; fault = f })

@@ -1,3 +1,5 @@
 pub mod First
 pub mod Fault
+pub mod Layer
+pub mod Neighbours
 pub mod Store

@@ -1,6 +1,7 @@
-//! Why a store refuses an edit.
+//! Why a store refuses an edit, and where: any refusal with the place that it was met at.
+//! stays: the numbers are those of the X lines; a definition gives each case its own, so they stand written out.
 ghost use Rattle.std.specs.Prelude.{◌≡◌};
-ghost use Rattle.graph.specs.Fault.{store_number, store_values};
+ghost use Rattle.graph.specs.Fault.{store_number, store_values, marked};
 
 /// A store's refusal, with the tables or the amount that it names.
 #[derive(Clone, Copy, PartialEq, Eq, Debug)]
@@ -23,11 +24,11 @@ impl StoreFault {
         ensures { result ≡ store_number self }
     {
         match self {
-            StoreFault::UnknownTable { table: _ } => 1,
-            StoreFault::SameTable { table: _ } => 2,
-            StoreFault::AlreadyJoined { a: _, b: _ } => 3,
-            StoreFault::NotJoined { a: _, b: _ } => 4,
-            StoreFault::Full { capacity: _ } => 5,
+            StoreFault::UnknownTable { .. } => 1,
+            StoreFault::SameTable { .. } => 2,
+            StoreFault::AlreadyJoined { .. } => 3,
+            StoreFault::NotJoined { .. } => 4,
+            StoreFault::Full { .. } => 5,
         }
     }
 
@@ -36,11 +37,23 @@ impl StoreFault {
         ensures { result ≡ store_values self }
     {
         match self {
-            StoreFault::UnknownTable { table } => [table, 0],
-            StoreFault::SameTable { table } => [table, 0],
-            StoreFault::AlreadyJoined { a, b } => [a, b],
-            StoreFault::NotJoined { a, b } => [a, b],
+            StoreFault::UnknownTable { table } | StoreFault::SameTable { table } => [table, 0],
+            StoreFault::AlreadyJoined { a, b } | StoreFault::NotJoined { a, b } => [a, b],
             StoreFault::Full { capacity } => [capacity, 0],
         }
     }
+}
+
+/// A refusal with the place that it was met at: the number of a step, or the offset of a line.
+#[derive(Clone, Copy, PartialEq, Eq, Debug)]
+pub struct At<F> {
+    pub place: usize,
+    pub fault: F,
+}
+
+/// An answer, with the place that it was given at.
+pub fn at_place<F>(place: usize, r: Result<(), F>) -> Result<(), At<F>>
+    ensures { result ≡ marked place r }
+{
+    r.map_err(|fault| At { place, fault })
 }

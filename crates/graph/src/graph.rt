@@ -10,20 +10,21 @@ pub trait ReadableGraph {
     /// The number of tables, and the set of joined pairs.
     ghost meaning: { Self → Graph };
 
-    /// What always holds of it: 1 to 64 tables, and joins between two different tables of them.
-    ghost simple: { (s : Self) → Simple (meaning s) };
-
     /// The number of tables.
     fn tables(&self) -> u32
         ensures { result ≡ table_count (meaning self.now) };
 
     /// Whether the two tables are joined.
+    // stays: two tables are two arguments, here and below; a pair would be made for the call and taken apart in it
     fn joined(&self, a: u32, b: u32) -> bool
         ensures { result ≡ joins (meaning self.now) a b };
 
     /// The lowest table, not below `bound`, that is joined with `table`, or none.
     fn next_neighbour(&self, table: u32, bound: u32) -> Option<u32>
         ensures { Next (joins (meaning self.now) table) bound result };
+
+    /// What always holds of it: 1 to 64 tables, and joins between two different tables of them.
+    ghost simple: { (s : Self) → Simple (meaning s) };
 }
 
 /// A readable graph that can be edited. Its promises are about the reading trait's meaning.
@@ -31,13 +32,9 @@ pub trait EditableGraph: ReadableGraph {
     /// The most joins that it can hold.
     ghost limit: { Self → ℕ };
 
-    /// No graph holds more than one join for each pair of 64 tables.
-    ghost bounded: { (s : Self) → limit s ≤ 2016 };
-
-    /// The most joins that it can hold; it never holds more.
+    /// The most joins that it can hold.
     fn capacity(&self) -> u32
-        ensures answer { result ≡ limit self.now }
-        ensures within { size (Self.ReadableGraph.meaning self.now) ≤ limit self.now };
+        ensures { result ≡ limit self.now };
 
     /// Puts the pair in, or refuses and changes nothing.
     fn join(&mut self, a: u32, b: u32) -> Result<(), StoreFault>
@@ -50,4 +47,10 @@ pub trait EditableGraph: ReadableGraph {
         ensures answer { result ≡ unjoin_answer (Self.ReadableGraph.meaning self.old) a b }
         ensures meant { Self.ReadableGraph.meaning self.new ≡ after result (unjoining (Self.ReadableGraph.meaning self.old) a b) (Self.ReadableGraph.meaning self.old) }
         ensures same { limit self.new ≡ limit self.old };
+
+    /// It never holds more.
+    ghost within: { (s : Self) → size (Self.ReadableGraph.meaning s) ≤ limit s };
+
+    /// No graph holds more than one join for each pair of 64 tables.
+    ghost bounded: { (s : Self) → limit s ≤ 2016 };
 }

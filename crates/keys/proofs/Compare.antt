@@ -6,23 +6,11 @@ use Rattle.refusals.specs.declared.build.BuildFault.{BuildFault}
 use Rattle.assembly.specs.Build.{list_of, build_judged, built_after, build_answer, records_after}
 use Rattle.assembly.specs.declared.build.Built.{Built}
 use Rattle.assembly.proofs.Laws.{There, there, legal_given}
-use Rattle.keys.specs.Key.{from_first, from_second, ComparedBy, Compared, second_after, OneKey}
-use Rattle.keys.specs.declared.key.KeyFault.{KeyFault}
+use Rattle.keys.specs.Key.{ComparedBy, Compared, OneKey}
 use Rattle.keys.proofs.Agree.{keys_agree}
 
 ok_err : {X F : Type 0} (x : X) (f : F) → Ok x ≡ Err f → ⊥
-ok_err x f e = let z : ◌≡◌ {A = ℕ} 0 1 = cc in omega arith
-
-same_ok : (x y : Built) → ◌≡◌ {A = Result Built KeyFault} (Ok x) (Ok y) → x ≡ y
-same_ok x y e = cc
-
-pub first_ok : (r : Result Built BuildFault) (o : Result Built KeyFault) (b : Built) → o ≡ from_first r → o ≡ Ok b → r ≡ Ok b
-first_ok (Ok x) o b e was = ap Ok (same_ok x b (sym e ∙ was))
-first_ok (Err f) o b e was = absurd (ok_err b _ (sym was ∙ e))
-
-pub second_ok : (r : Result Built BuildFault) (o : Result Built KeyFault) (b : Built) → o ≡ from_second r → o ≡ Ok b → r ≡ Ok b
-second_ok (Ok x) o b e was = ap Ok (same_ok x b (sym e ∙ was))
-second_ok (Err f) o b e was = absurd (ok_err b _ (sym was ∙ e))
+ok_err x f e = cc
 
 accepted : (m : Graph) (r : Result Unit BuildFault) (b : Built) → built_after r m ≡ Ok b → r ≡ Ok tt
 accepted m (Ok tt) b e = refl
@@ -37,9 +25,6 @@ fits m s l l' b e laid =
   where
     within : (n : ℕ) (x : List Step) → length (take n x) ≡ n → n ≤ length x
     within n x h = omega (arith, length-take n x)
-
-pub second_asked : (m k : Graph) (n : ℕ) (l l' : List Step) (b : Built) → build_answer m n ≡ Ok b → l' ≡ records_after k l → l' ≡ second_after (build_judged m n) k l
-second_asked m k n l l' b e laid = laid ∙ sym (ap (λ j. second_after j k l) (accepted m (build_judged m n) b e))
 
 module _ (m k : Graph) (s : Simple m) (t : Simple k) (l r : List Step) (a b : Built) (given-a : build_answer m (length l) ≡ Ok a) (given-b : build_answer k (length r) ≡ Ok b)
     (x : Bool) (l' r' : List Step) (laid-a : l' ≡ records_after m l) (laid-b : r' ≡ records_after k r)

@@ -10,7 +10,6 @@ use Rattle.theory.specs.declared.step.Step.{Step}
 use Rattle.refusals.specs.Build.{build_number, build_value}
 use Rattle.refusals.specs.declared.build.BuildFault.{BuildFault}
 use Rattle.assembly.specs.Build.{list_of, build_judged, records_after}
-use Rattle.assembly.specs.declared.build.Built.{Built}
 use Rattle.keys.specs.declared.key.KeyFault.{KeyFault}
 use Rattle.keys.specs.declared.key.KeyFault.TheVariants.{First, Second}
 
@@ -25,14 +24,6 @@ key_value (Second f) = build_value f
 abbrev pub key_graph : KeyFault → ℕ
 key_graph (First f) = 1
 key_graph (Second f) = 2
-
-abbrev pub from_first : Result Built BuildFault → Result Built KeyFault
-from_first (Ok b) = Ok b
-from_first (Err f) = Err (First f)
-
-abbrev pub from_second : Result Built BuildFault → Result Built KeyFault
-from_second (Ok b) = Ok b
-from_second (Err f) = Err (Second f)
 
 abbrev pub ComparedBy : Result Unit BuildFault → Result Unit BuildFault → Graph → Graph → Result Bool KeyFault → Type 0
 ComparedBy (Err f) j m k r = r ≡ Err (First f)

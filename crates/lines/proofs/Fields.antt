@@ -7,6 +7,7 @@ use Rattle.lines.specs.declared.line.Layout.TheVariants as layouts
 use Rattle.lines.specs.declared.line.Fields.{Fields}
 use Rattle.lines.specs.declared.line.Fields.TheVariants.{Three, LastTwo, FirstTwo, Counted, Single}
 use Rattle.lines.specs.Text.{number_text, unused_text, optional_text, fields_text, layout_of, OptionFits, Fits}
+use Rattle.lines.specs.declared.line.BadByte.{BadByte}
 use Rattle.lines.specs.Read.{byte, blank_from, number_at, unused_at, or_number, optional_at, fields_at}
 use Rattle.lines.specs.Form.{Agrees}
 use Rattle.lines.proofs.Steps.{blank_done, blank_more, blank_stop}
@@ -67,12 +68,12 @@ module _ (text : List ℕ) (i : ℕ) where
   only_blanks a (Some v) b = absurd (number_blanks text i v a b)
 
   -- after a number there is nothing else
-  only_number : (e v : ℕ) → Piece unused text i (Err e) → Piece numbers text i (Ok v) → (o : Option ℕ) → OptionFits o → Agrees (optional_text o) text i 5 → o ≡ Some v
+  only_number : (e : BadByte) (v : ℕ) → Piece unused text i (Err e) → Piece numbers text i (Ok v) → (o : Option ℕ) → OptionFits o → Agrees (optional_text o) text i 5 → o ≡ Some v
   only_number e v p q None f a = absurd (p.no_more (tt, tt, agrees_less unused_text text i (p.many + 1) 5 (omega arith) a))
   only_number e v p q (Some w) f a = ap Some (q.only w f a)
 
   -- where the number stops, so do the blanks
-  no_optional : (e d : ℕ) (p : Piece unused text i (Err e)) (q : Piece numbers text i (Err d)) (o : Option ℕ) → OptionFits o → Agrees (optional_text o) text i (q.many + 1) → ⊥
+  no_optional : (e d : BadByte) (p : Piece unused text i (Err e)) (q : Piece numbers text i (Err d)) (o : Option ℕ) → OptionFits o → Agrees (optional_text o) text i (q.many + 1) → ⊥
   no_optional e d p q None f a =
       ⊎_elim
       (λ (l : q.many < 4). q.no_more (0, omega arith, λ j h. zero_text j (omega arith) ∙ a j h))
@@ -81,7 +82,7 @@ module _ (text : List ℕ) (i : ℕ) where
   no_optional e d p q (Some w) f a = q.no_more (w, f, a)
 
   -- the answers of both
-  optional_from : (ru : Result Unit ℕ) (rn : Result ℕ ℕ) → Piece unused text i ru → Piece numbers text i rn → Piece optionals text i (or_number ru rn)
+  optional_from : (ru : Result Unit BadByte) (rn : Result ℕ BadByte) → Piece unused text i ru → Piece numbers text i rn → Piece optionals text i (or_number ru rn)
   optional_from (Ok u) rn p q = record { fits = tt; agrees = p.agrees; only = λ o f a. only_blanks p.agrees o a }
   optional_from (Err e) (Ok v) p q = record { fits = q.fits; agrees = q.agrees; only = only_number e v p q }
   optional_from (Err e) (Err d) p q =

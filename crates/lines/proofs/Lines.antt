@@ -6,7 +6,8 @@ use Rattle.lines.specs.declared.line.Fields.{Fields}
 use Rattle.lines.specs.declared.line.Fields.TheVariants.{Three}
 use Rattle.lines.specs.declared.line.Line.{Line}
 use Rattle.lines.specs.Text.{layout, layout_of, fields_text, line_text, Written}
-use Rattle.lines.specs.Read.{then, byte, fields_at, ended, line_in, line_at}
+use Rattle.lines.specs.declared.line.BadByte.{BadByte}
+use Rattle.lines.specs.Read.{bad, then, byte, fields_at, ended, line_in, line_at}
 use Rattle.lines.specs.Form.{Agrees, LineRead}
 use Rattle.lines.proofs.Pieces.{Kind, Piece, Joined, here, step, stop, joined, agrees_less}
 use Rattle.lines.proofs.Fields.{fields_in, fields_read}
@@ -17,8 +18,8 @@ abbrev feed : Kind Unit
 feed = record { Fit = λ _. Unit {0}; text_of = λ _. 10 ∷ []; width = 1 }
 
 -- reading it
-abbrev feed_at : List ℕ → ℕ → Result Unit ℕ
-feed_at text i = cond (eqb (byte text i) 10) (Ok tt) (Err i)
+abbrev feed_at : List ℕ → ℕ → Result Unit BadByte
+feed_at text i = cond (eqb (byte text i) 10) (Ok tt) (Err (bad i))
 
 feed_read : (text : List ℕ) (i : ℕ) → Piece feed text i (feed_at text i)
 feed_read text i =
@@ -68,11 +69,11 @@ letter_joined c y e =
 
 module _ (text : List ℕ) (at : ℕ) where
   -- the line feed's answer, as `ended` has it
-  feed_then : (b : Bool) (l : Line) (i : ℕ) → then {X = Unit {0}} (cond b (Ok tt) (Err i)) (λ u. Ok l) ≡ cond b (Ok l) (Err i)
+  feed_then : (b : Bool) (l : Line) (i : ℕ) → then {X = Unit {0}} (cond b (Ok tt) (Err (bad i))) (λ u. Ok l) ≡ cond b (Ok l) (Err (bad i))
   feed_then true l i = refl
   feed_then false l i = refl
 
-  ended_is : (r : Result Fields ℕ) → then r (λ f. then (feed_at text (at + 16)) (λ u. Ok (lettered (byte text at) f))) ≡ then r (λ f. ended text (at + 16) (lettered (byte text at) f))
+  ended_is : (r : Result Fields BadByte) → then r (λ f. then (feed_at text (at + 16)) (λ u. Ok (lettered (byte text at) f))) ≡ then r (λ f. ended text (at + 16) (lettered (byte text at) f))
   ended_is (Ok f) = feed_then (eqb (byte text (at + 16)) 10) (lettered (byte text at) f) (at + 16)
   ended_is (Err p) = refl
 
@@ -95,7 +96,7 @@ module _ (text : List ℕ) (at : ℕ) where
   line_piece = in_layout (layout (byte text at)) refl
 
   -- in the words of Form.antt
-  line_reads : (r : Result Line ℕ) → Piece lines text at r → LineRead text at r
+  line_reads : (r : Result Line BadByte) → Piece lines text at r → LineRead text at r
   line_reads (Ok l) p = (p.fits, p.agrees)
   line_reads (Err q) p = record { length_of = p.many; is_place = p.is_place; short = p.short; begins = p.starts; no_more = p.no_more }
 
@@ -104,7 +105,7 @@ module _ (text : List ℕ) (at : ℕ) where
   line_read = line_reads (line_at text at) line_piece
 
   -- no other answer can be given where a line stands
-  only_line : (l : Line) → Written l → Agrees (line_text l) text at 17 → (r : Result Line ℕ) → Piece lines text at r → r ≡ Ok l
+  only_line : (l : Line) → Written l → Agrees (line_text l) text at 17 → (r : Result Line BadByte) → Piece lines text at r → r ≡ Ok l
   only_line l w a (Ok k) p = ap Ok (sym (p.only l w a))
   only_line l w a (Err q) p = absurd (p.no_more (l, w, agrees_less (line_text l) text at (p.many + 1) 17 (omega arith) a))
 

@@ -9,7 +9,8 @@
 use Rattle.std.proofs.Common.{◌≡◌, ℕ, zero, suc, ◌+◌, ◌-◌, ◌<◌, ◌≤◌, ◌↔◌, List, ◌∷◌, ◌++◌, length, get_or, Ok, Err, Result, sym, refl, ap, ◌∙◌, subst, ap₂, ⊎_elim, arith}
 use Rattle.std.proofs.lemmas.List.{get_or_append_left, get_or-append-add, get_or-append_right}
 use Rattle.std.proofs.lemmas.Bool.{cases_lt}
-use Rattle.lines.specs.Read.{then, byte}
+use Rattle.lines.specs.declared.line.BadByte.{BadByte}
+use Rattle.lines.specs.Read.{bad, then, byte}
 use Rattle.lines.specs.Form.{Agrees}
 
 -- equal places have equal bytes
@@ -83,12 +84,12 @@ module _ {X : Type 0} (K : Kind X) (text : List ℕ) (i : ℕ) where
     pub no_more : Starts (many + 1) → ⊥
 
   -- what an answer says
-  abbrev pub Piece : Result X ℕ → Type 0
+  abbrev pub Piece : Result X BadByte → Type 0
   Piece (Ok x) = Found x
-  Piece (Err p) = Stopped p
+  Piece (Err p) = Stopped p.place
 
 -- the same values, fit by other words
-pub refit : {X : Type 0} (K : Kind X) (Fit : X → Type 0) → ((x : X) → K.Fit x ↔ Fit x) → (text : List ℕ) (i : ℕ) (r : Result X ℕ)
+pub refit : {X : Type 0} (K : Kind X) (Fit : X → Type 0) → ((x : X) → K.Fit x ↔ Fit x) → (text : List ℕ) (i : ℕ) (r : Result X BadByte)
     → Piece K text i r → Piece (record { Fit = Fit; text_of = K.text_of; width = K.width }) text i r
 refit K Fit same text i (Ok x) p = record { fits = (same x).0 p.fits; agrees = p.agrees; only = λ y f a. p.only y ((same y).1 f) a }
 refit K Fit same text i (Err q) p =
@@ -110,7 +111,7 @@ module _ {X : Type 0} (text : List ℕ) (i : ℕ) where
     K = record { Fit = Fit; text_of = λ x. first x ∷ rest x; width = suc w }
 
     -- one byte, which leaves those that fit in Left, and then a piece
-    pub step : (Left : X → Type 0) → ((x : X) → (Fit x × (first x ≡ byte text i)) ↔ Left x) → (r : Result X ℕ)
+    pub step : (Left : X → Type 0) → ((x : X) → (Fit x × (first x ≡ byte text i)) ↔ Left x) → (r : Result X BadByte)
         → Piece (record { Fit = Left; text_of = rest; width = w }) text (i + 1) r → Piece K text i r
     step Left same (Ok x) p =
         let f = (same x).1 p.fits in
@@ -134,7 +135,7 @@ module _ {X : Type 0} (text : List ℕ) (i : ℕ) where
         }
 
     -- a byte that no value that fits has there
-    pub stop : (x : X) → Fit x → ((y : X) → Fit y → first y ≡ byte text i → ⊥) → Piece K text i (Err i)
+    pub stop : (x : X) → Fit x → ((y : X) → Fit y → first y ≡ byte text i → ⊥) → Piece K text i (Err (bad i))
     stop x f none =
         record {
           many = 0;
@@ -190,7 +191,7 @@ module _ {A B Y : Type 0} {K : Kind A} {L : Kind B} {M : Kind Y} {f : A → B �
   both a b k ka lb = rw (J.texts a b) (agrees_both (K.text_of a) (L.text_of b) text K.width (J.long a) i j next k ka lb)
 
   -- a piece after a piece
-  pub joined : (ra : Result A ℕ) (rb : Result B ℕ) → Piece K text i ra → Piece L text j rb → Piece M text i (then ra (λ a. then rb (λ b. Ok (f a b))))
+  pub joined : (ra : Result A BadByte) (rb : Result B BadByte) → Piece K text i ra → Piece L text j rb → Piece M text i (then ra (λ a. then rb (λ b. Ok (f a b))))
   joined (Ok a) (Ok b) p q =
       record {
         fits = J.fits a b p.fits q.fits;
@@ -232,11 +233,11 @@ pub record Sized {X : Type 0} (K : Kind X) : Type 0 where
   pub some : (x : X) × K.Fit x
 
 -- the readings of two, one after the other
-abbrev two : {B C : Type 0} → Result B ℕ → Result C ℕ → Result (B × C) ℕ
+abbrev two : {B C : Type 0} → Result B BadByte → Result C BadByte → Result (B × C) BadByte
 two rb rc = then rb (λ b. then rc (λ c. Ok (b, c)))
 
 -- two answers taken together or one by one
-then_three : {A B C Y : Type 0} (f : A → B → C → Y) (ra : Result A ℕ) (rb : Result B ℕ) (rc : Result C ℕ)
+then_three : {A B C Y : Type 0} (f : A → B → C → Y) (ra : Result A BadByte) (rb : Result B BadByte) (rc : Result C BadByte)
     → then ra (λ a. then (two rb rc) (λ p. Ok (f a p.0 p.1))) ≡ then ra (λ a. then rb (λ b. then rc (λ c. Ok (f a b c))))
 then_three f (Ok a) (Ok b) (Ok c) = refl
 then_three f (Ok a) (Ok b) (Err p) = refl
@@ -245,7 +246,7 @@ then_three f (Err p) rb rc = refl
 
 -- three pieces
 pub joined_three : {A B C Y : Type 0} {K : Kind A} {L : Kind B} {N : Kind C} {M : Kind Y} (f : A → B → C → Y) → Joined K (pairs L N) M (λ a p. f a p.0 p.1) → Sized L → Sized N
-    → (text : List ℕ) (i j k : ℕ) → j ≡ i + K.width → k ≡ j + L.width → (ra : Result A ℕ) (rb : Result B ℕ) (rc : Result C ℕ) → Piece K text i ra → Piece L text j rb → Piece N text k rc
+    → (text : List ℕ) (i j k : ℕ) → j ≡ i + K.width → k ≡ j + L.width → (ra : Result A BadByte) (rb : Result B BadByte) (rc : Result C BadByte) → Piece K text i ra → Piece L text j rb → Piece N text k rc
     → Piece M text i (then ra (λ a. then rb (λ b. then rc (λ c. Ok (f a b c)))))
 joined_three {L = L} {N = N} {M = M} f J sl sn text i j k ej ek ra rb rc pa pb pc =
     let P : Joined L N (pairs L N) (λ b c. (b, c)) =

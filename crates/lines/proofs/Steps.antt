@@ -1,6 +1,6 @@
 -- The readers of Read.antt one byte at a time: what each does at a byte, with the outcome of its tests given.
 use Rattle.std.proofs.Common.{◌≡◌, ℕ, suc, ◌+◌, ◌-◌, ◌*◌, Bool, true, false, not, ◌&&◌, ◌||◌, eqb, List, Ok, Err, refl}
-use Rattle.lines.specs.Read.{byte, is_digit, digit_may, blank_may, number_from, signed, count_from, blank_from}
+use Rattle.lines.specs.Read.{bad, byte, is_digit, digit_may, blank_may, number_from, signed, count_from, blank_from}
 
 -- a digit of a row count: a zero may be the first digit only at the last place and with no sign before it
 abbrev pub count_digit_may : ℕ → Bool → ℕ → ℕ → Bool
@@ -31,7 +31,7 @@ module _ (text : List ℕ) (i : ℕ) where
   number_blank k v d b = rw (d, b)
 
   -- any other byte is refused at its place
-  pub number_stop : (k v : ℕ) → digit_may k v (byte text i) ≡ false → blank_may k v (byte text i) ≡ false → number_from text i (suc k) v ≡ Err i
+  pub number_stop : (k v : ℕ) → digit_may k v (byte text i) ≡ false → blank_may k v (byte text i) ≡ false → number_from text i (suc k) v ≡ Err (bad i)
   unfolding number_from
   number_stop k v d b = rw (d, b)
 
@@ -60,7 +60,7 @@ module _ (text : List ℕ) (i : ℕ) where
 
   -- any other byte is refused at its place
   pub count_stop : (k : ℕ) (neg : Bool) (v : ℕ) → count_digit_may k neg v (byte text i) ≡ false → count_blank_may k neg v (byte text i) ≡ false → sign_may k neg v (byte text i) ≡ false
-      → count_from text i (suc k) neg v ≡ Err i
+      → count_from text i (suc k) neg v ≡ Err (bad i)
   unfolding count_from
   count_stop k neg v d b s = rw (d, b, s)
 
@@ -75,6 +75,6 @@ module _ (text : List ℕ) (i : ℕ) where
   blank_more k b = rw b
 
   -- any other byte is refused at its place
-  pub blank_stop : (k : ℕ) → eqb (byte text i) 32 ≡ false → blank_from text i (suc k) ≡ Err i
+  pub blank_stop : (k : ℕ) → eqb (byte text i) 32 ≡ false → blank_from text i (suc k) ≡ Err (bad i)
   unfolding blank_from
   blank_stop k b = rw b

@@ -8,6 +8,7 @@
 use Rattle.std.specs.Prelude.{◌≡◌, ℕ, ◌+◌, ◌<◌, List, Ok, Err, Result, slice_index}
 use Rattle.lines.specs.Text.{line_text, Written}
 use Rattle.lines.specs.declared.line.Line.{Line}
+use Rattle.lines.specs.declared.line.BadByte.{BadByte}
 
 abbrev pub Agrees : List ℕ → List ℕ → ℕ → ℕ → Type 0
 Agrees t text at k = (j : ℕ) → j < k → slice_index t j ≡ slice_index text (at + j)
@@ -23,6 +24,6 @@ pub record Longest (text : List ℕ) (at place : ℕ) : Type 0 where
   pub begins : Begins text at length_of
   pub no_more : Begins text at (length_of + 1) → ⊥
 
-abbrev pub LineRead : List ℕ → ℕ → Result Line ℕ → Type 0
+abbrev pub LineRead : List ℕ → ℕ → Result Line BadByte → Type 0
 LineRead text at (Ok l) = Written l × Agrees (line_text l) text at 17
-LineRead text at (Err place) = Longest text at place
+LineRead text at (Err bad) = Longest text at bad.place

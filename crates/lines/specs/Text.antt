@@ -1,6 +1,7 @@
 -- The text of a line. A line is one letter, three fields of five characters and a line feed: 17 bytes.
 --
 --   layout c        the table of letters: how the fields after letter c are laid out, or none where c is not listed
+--   layout_read c   the same, where a letter that is not listed is refused
 --   numeral k v     the last k places of v in decimal, right-justified: a blank where all digits from there up are zero, but
 --                   for the last place
 --   number_text v   a number in its field of five characters
@@ -10,12 +11,14 @@
 --   line_text l     the whole line
 --   Fits f          each number is small enough for its place
 --   Written l       l is a line that can be written: a listed letter, fields in its layout, numbers that fit
-use Rattle.std.specs.Prelude.{◌≡◌, ℕ, zero, suc, pred, ◌+◌, ◌/◌, ◌%◌, ◌^◌, ◌≤◌, Bool, false, cond, not, ◌&&◌, ◌||◌, List, [], ◌∷◌, ◌++◌, ℤ, pos, negsuc, Some, None, Option, ◌==◌}
+use Rattle.std.specs.Prelude.{◌≡◌, ℕ, zero, suc, pred, ◌+◌, ◌/◌, ◌%◌, ◌^◌, ◌≤◌, Bool, false, cond, not, ◌&&◌, ◌||◌, List, [], ◌∷◌, ◌++◌, ℤ, pos, negsuc, Some, None, Option, Result, ◌==◌}
+use Rattle.std.specs.Option.{ok_or}
 use Rattle.lines.specs.declared.line.Layout.{Layout}
 use Rattle.lines.specs.declared.line.Layout.TheVariants as layouts
 use Rattle.lines.specs.declared.line.Fields.{Fields}
 use Rattle.lines.specs.declared.line.Fields.TheVariants.{Three, LastTwo, FirstTwo, Counted, Single}
 use Rattle.lines.specs.declared.line.Line.{Line}
+use Rattle.lines.specs.declared.line.UnlistedLetter.{UnlistedLetter}
 
 abbrev pub is_any : ℕ → List ℕ → Bool
 is_any c [] = false
@@ -30,6 +33,9 @@ layout c =
     (cond (c == 82) (Some layouts.Counted)
     (cond (c == 80) (Some layouts.Single)
     None))))
+
+abbrev pub layout_read : ℕ → Result Layout UnlistedLetter
+layout_read c = ok_or (layout c) (record { 0 = c })
 
 -- at the place of 10 ^ k
 abbrev pub place_text : ℕ → ℕ → ℕ

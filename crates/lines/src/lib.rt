@@ -1,4 +1,5 @@
-//! Lines of fixed columns as mathematics: what a line holds, the text that it has, and what it means that bytes begin a line.
+//! Lines of fixed columns: what a line holds, which layout goes with its letter, the text that it has, and what it means that
+//! bytes begin a line.
 #![tactic(auto)]
 
 pub mod line;

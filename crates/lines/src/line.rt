@@ -1,7 +1,9 @@
 //! A line of text: one letter, then three fields of five characters, then a line feed.
+ghost use Rattle.std.specs.Prelude.{◌≡◌};
+ghost use Rattle.lines.specs.Text.{layout_read};
 
 /// How the fifteen characters after a letter are divided.
-#[derive(Clone, Copy)]
+#[derive(Clone, Copy, PartialEq, Eq, Debug)]
 pub enum Layout {
     /// Three numbers.
     Three,
@@ -15,6 +17,28 @@ pub enum Layout {
     Single,
 }
 
+/// A letter with which no line begins.
+#[derive(Clone, Copy, PartialEq, Eq, Debug)]
+pub struct UnlistedLetter(pub char);
+
+/// The layout that goes with a line's letter.
+impl TryFrom<char> for Layout {
+    type Error = UnlistedLetter;
+
+    ghost try_from_gives = { λ letter r. r ≡ layout_read letter };
+
+    fn try_from(letter: char) -> Result<Layout, UnlistedLetter> {
+        match letter {
+            'H' | 'T' | 'N' | 'D' | 'X' => Ok(Layout::Three),
+            'E' | 'J' | 'M' => Ok(Layout::LastTwo),
+            'G' => Ok(Layout::FirstTwo),
+            'R' => Ok(Layout::Counted),
+            'P' => Ok(Layout::Single),
+            _ => Err(UnlistedLetter(letter)),
+        }
+    }
+}
+
 /// What the fields of a line hold. There is one case for each layout.
 #[derive(Clone, Copy, PartialEq, Eq, Debug)]
 pub enum Fields {
@@ -26,8 +50,17 @@ pub enum Fields {
 }
 
 /// A line: its letter, and what its fields hold.
+// stays: the letter is a character that readers match on, and what its fields hold is another question: the definitions of a
+// line are over these two
 #[derive(Clone, Copy, PartialEq, Eq, Debug)]
 pub struct Line {
     pub letter: char,
     pub fields: Fields,
+}
+
+/// The byte that a line begun as the text goes on cannot have.
+#[derive(Clone, Copy, PartialEq, Eq, Debug)]
+pub struct BadByte {
+    /// Its offset in the text.
+    pub place: usize,
 }

@@ -1,8 +1,9 @@
 //! A stack in memory that the caller lends, for records of any plain kind. Full, it takes none; empty, it gives none.
 ghost use Rattle.std.specs.Prelude.{◌≡◌, ℕ, ◌-◌, ◌≤◌, length};
-ghost use Rattle.memory.specs.Stack.{has_room, slots_after, height_after, top_of};
+ghost use Rattle.memory.specs.Stack.{push_answer, slots_after, height_after, top_of};
 
 /// The first `len` slots hold what was put in, the last of them on top; the other slots keep what the lender left there.
+// stays: the slots are lent, and there is no heap; this type is what keeps a length and its slots together
 #[derive(Drop)]
 pub struct Stack<'a, T> {
     slots: &'a mut [T],
@@ -25,24 +26,33 @@ impl<'a, T: Copy> Stack<'a, T> {
     pub fn len(&self) -> usize
         ensures { result ≡ self.now.len }
     {
-        let count = self.len;
-        count
+        self.len // of the records, not of the slots
     }
 
-    /// Puts a record on top, or takes none where it is full.
-    pub fn push(&mut self, x: T) -> bool
-        ensures answer { result ≡ has_room self.old.slots.now self.old.len }
+    /// The record on top, or none where it is empty.
+    pub fn top(&self) -> Option<T>
+        ensures { result ≡ top_of self.now.slots.now self.now.len }
+    {
+        if self.len == 0 {
+            return None;
+        }
+        Some(self.slots[self.len - 1])
+    }
+
+    /// Puts a record on top, or gives it back where the stack is full.
+    pub fn push(&mut self, x: T) -> Result<(), T>
+        ensures answer { result ≡ push_answer self.old.slots.now self.old.len x }
         // the one slot written is the first free one
         ensures kept { self.new.slots.now ≡ slots_after self.old.slots.now self.old.len x }
         ensures height { self.new.len ≡ height_after self.old.slots.now self.old.len }
         ensures lender { self.new.slots.ghost_name ≡ self.old.slots.ghost_name }
     {
         if self.len >= self.slots.len() {
-            return false;
+            return Err(x);
         }
         self.slots[self.len] = x;
         self.len += 1;
-        true
+        Ok(())
     }
 
     /// Takes the record on top, or gives none where it is empty.

@@ -1,18 +1,14 @@
 -- The list that stands in the records at the end, and its triangle.
 --
---   notes_laid   the notes laid from the first record on
---   list_is      those turned round
+--   list_is      the notes, laid from the first record on, and those turned round
 --   corners_in   the triangle of a mask
 use Rattle.std.proofs.Common.{◌≡◌, ℕ, ◌+◌, ◌≤◌, Bool, List, ◌++◌, length, take, drop, ap, ◌∙◌, arith}
 use Rattle.theory.specs.declared.step.Step.{Step}
 use Rattle.bits.specs.Rows.{bit}
 use Rattle.disassembly.specs.Disassembly.{reversed, passing, corners}
-use Rattle.notes.specs.Notes.{tables_of, poured, corners_of, list_laid}
+use Rattle.notes.specs.Masks.{tables_of}
+use Rattle.notes.specs.Notes.{poured, corners_of, list_laid}
 use Rattle.notes.proofs.Poured.{poured_front, poured_back}
-
--- what the lender finds is what the stack left
-pub notes_laid : (after laid slots first notes : List Step) (start : ℕ) → after ≡ laid → laid ≡ poured slots start notes → slots ≡ first → start ≡ 0 → after ≡ poured first 0 notes
-notes_laid after laid slots first notes start found was e z = found ∙ was ∙ ap (λ s. poured s start notes) e ∙ ap (λ i. poured first i notes) z
 
 pub list_is : (first laid after notes : List Step) (n : ℕ) → laid ≡ poured first 0 notes → n ≡ length notes → after ≡ reversed (take n laid) ++ drop n laid
     → length notes ≤ length first → after ≡ list_laid notes first

@@ -1,3 +1,4 @@
+pub mod Lowest
 pub mod Masks
 pub mod Poured
 pub mod Strip
@@ -5,4 +6,3 @@ pub mod Turns
 pub mod Reversed
 pub mod Laid
 pub mod Given
-pub mod Lowest

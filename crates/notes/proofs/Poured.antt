@@ -2,12 +2,14 @@
 --
 --   poured_append, poured_length   laying splits over ++; there are as many slots as before
 --   poured_front, poured_back      where there is room, the records stand behind those before them, and the slots after them are as they were
---   GoesOn                         laying what is left gives what laying all gives
---   starts, goes_as, goes_on, room, ends    before the first, what is left said in another way, from one piece to the next, room for the next piece, after the last
---   room_first, room_second, room_last, all_laid, all_high    three pieces
+--   lays_as, lays_more             the records said in another way; more laid after those
+--   LaidSoFar s t l all            the stack t is s with so many of the records `all` laid on top that the records l are left
+--   laid_on, laid_end              from one piece to the next, and after the last
 use Rattle.std.proofs.Common.{◌≡◌, ℕ, suc, ◌+◌, ◌≤◌, List, [], ◌∷◌, ◌++◌, length, take, drop, set, sym, refl, ap, ◌∙◌, subst, arith, length-set}
 use Rattle.std.proofs.lemmas.List.{append-nil, append_assoc, length-append, take_more_set, drop-set-lt}
-use Rattle.notes.specs.Notes.{poured}
+use Rattle.theory.specs.declared.step.Step.{Step}
+use Rattle.memory.specs.declared.stack.Stack.{Stack}
+use Rattle.notes.specs.Notes.{poured, Fits, Lays}
 
 pub poured_append : {T : Type 0} (slots : List T) (k : ℕ) (l r : List T) → poured slots k (l ++ r) ≡ poured (poured slots k l) (k + length l) r
 poured_append slots k [] r = let e : k ≡ k + 0 = omega arith in ap (λ n. poured slots n r) e
@@ -38,60 +40,41 @@ poured_back slots k (x ∷ l) =
     ∙ drop-set-lt (k + 1 + length l) slots k x (omega arith)
     ∙ sym (ap (λ n. drop n slots) e)
 
-pub record GoesOn {T : Type 0} (slots : List T) (k : ℕ) (l : List T) (first : List T) (start : ℕ) (all : List T) : Type 0 where
-  pub same : poured slots k l ≡ poured first start all
-  pub many : k + length l ≡ start + length all
-  pub long : length slots ≡ length first
+-- ---- stacks
 
-pub starts : {T : Type 0} (slots : List T) (k : ℕ) (l all : List T) → l ≡ all → GoesOn slots k l slots k all
-starts slots k l all e = record { same = ap (poured slots k) e; many = ap (λ r. k + length r) e; long = refl }
+pub lays_as : (s t : Stack Step) (l r : List Step) → l ≡ r → Lays s t l → Lays s t r
+lays_as s t l r e lays = subst (Lays s t) e lays
 
-pub goes_as : {T : Type 0} (slots : List T) (k : ℕ) (l l' first : List T) (start : ℕ) (all : List T) → l ≡ l' → GoesOn slots k l first start all → GoesOn slots k l' first start all
-goes_as slots k l l' first start all e g = subst (λ r. GoesOn slots k r first start all) e g
+pub lays_more : (s t u : Stack Step) (l r : List Step) → Lays s t l → Lays t u r → Lays s u (l ++ r)
+lays_more s t u l r first second = record {
+  laid = λ h.
+      second.laid (room h)
+      ∙ ap (λ slots. poured slots t.len r) (first.laid (before h))
+      ∙ ap (λ k. poured (poured s.slots.now s.len l) k r) (first.height (before h))
+      ∙ sym (poured_append s.slots.now s.len l r);
+  height = λ h. omega (arith, second.height (room h), first.height (before h), length-append l r);
+  lender = second.lender ∙ first.lender;
+}
+  where
+    before : Fits s (l ++ r) → Fits s l
+    before h = omega (arith, length-append l r)
 
-pub goes_on : {T : Type 0} (slots slots' : List T) (k k' : ℕ) (l r first : List T) (start : ℕ) (all : List T) → GoesOn slots k (l ++ r) first start all
-    → slots' ≡ poured slots k l → k' ≡ k + length l → GoesOn slots' k' r first start all
-goes_on slots slots' k k' l r first start all g laid height = record {
-  same = ap (λ s. poured s k' r) laid ∙ ap (λ n. poured (poured slots k l) n r) height ∙ sym (poured_append slots k l r) ∙ g.same;
-  many = omega (arith, g.many, length-append l r);
-  long = ap length laid ∙ poured_length slots k l ∙ g.long;
+    room : Fits s (l ++ r) → Fits t r
+    room h =
+        let long : length t.slots.now ≡ length s.slots.now = ap length (first.laid (before h)) ∙ poured_length s.slots.now s.len l in
+        omega (arith, first.height (before h), length-append l r)
+
+pub record LaidSoFar (s t : Stack Step) (left all : List Step) : Type 0 where
+  pub done : List Step
+  pub lays : Lays s t done
+  pub whole : done ++ left ≡ all
+
+pub laid_on : (s t u : Stack Step) (left l r all : List Step) → LaidSoFar s t left all → left ≡ l ++ r → Lays t u l → LaidSoFar s u r all
+laid_on s t u left l r all so_far e more = record {
+  done = so_far.done ++ l;
+  lays = lays_more s t u so_far.done l so_far.lays more;
+  whole = append_assoc so_far.done l r ∙ ap (λ m. so_far.done ++ m) (sym e) ∙ so_far.whole;
 }
 
-pub room : {T : Type 0} (slots : List T) (k : ℕ) (l r first : List T) (start : ℕ) (all : List T) → GoesOn slots k (l ++ r) first start all
-    → start + length all ≤ length first → k + length l ≤ length slots
-room slots k l r first start all g fits = omega (arith, g.many, g.long, length-append l r)
-
-pub ends : {T : Type 0} (slots : List T) (k : ℕ) (l first : List T) (start : ℕ) (all : List T) → GoesOn slots k l first start all → l ≡ []
-    → (slots ≡ poured first start all) × (k ≡ start + length all)
-ends slots k l first start all g e = (sym (ap (poured slots k) e) ∙ g.same, omega (arith, g.many, ap length e))
-
--- two pieces and a last record, laid one after another into slots that have room for all
-module _ {T : Type 0} (slots : List T) (k : ℕ) (l r : List T) (x : T) (fits : k + length (l ++ (r ++ (x ∷ []))) ≤ length slots) where
-  abbrev all : List T
-  all = l ++ (r ++ (x ∷ []))
-
-  at_first : GoesOn slots k all slots k all
-  at_first = starts slots k all all refl
-
-  pub room_first : k + length l ≤ length slots
-  room_first = room slots k l (r ++ (x ∷ [])) slots k all at_first fits
-
-  module _ (slots₁ : List T) (k₁ : ℕ) (laid₁ : slots₁ ≡ poured slots k l) (height₁ : k₁ ≡ k + length l) where
-    at_second : GoesOn slots₁ k₁ (r ++ (x ∷ [])) slots k all
-    at_second = goes_on slots slots₁ k k₁ l (r ++ (x ∷ [])) slots k all at_first laid₁ height₁
-
-    pub room_second : k₁ + length r ≤ length slots₁
-    room_second = room slots₁ k₁ r (x ∷ []) slots k all at_second fits
-
-    module _ (slots₂ : List T) (k₂ : ℕ) (laid₂ : slots₂ ≡ poured slots₁ k₁ r) (height₂ : k₂ ≡ k₁ + length r) where
-      at_last : GoesOn slots₂ k₂ (x ∷ []) slots k all
-      at_last = goes_on slots₁ slots₂ k₁ k₂ r (x ∷ []) slots k all at_second laid₂ height₂
-
-      pub room_last : k₂ + 1 ≤ length slots₂
-      room_last = let g = at_last in omega (arith, g.many, g.long, fits)
-
-      pub all_laid : (slots₃ : List T) → slots₃ ≡ poured slots₂ k₂ (x ∷ []) → slots₃ ≡ poured slots k all
-      all_laid slots₃ laid₃ = laid₃ ∙ at_last.same
-
-      pub all_high : (k₃ : ℕ) → k₃ ≡ k₂ + 1 → k₃ ≡ k + length all
-      all_high k₃ height₃ = let g = at_last in omega (arith, g.many)
+pub laid_end : (s t : Stack Step) (left all : List Step) → LaidSoFar s t left all → left ≡ [] → Lays s t all
+laid_end s t left all so_far e = lays_as s t so_far.done all (sym (append-nil so_far.done) ∙ ap (λ m. so_far.done ++ m) (sym e) ∙ so_far.whole) so_far.lays

@@ -7,7 +7,7 @@
 --   away_taken       the first tables left, all but three, are those to take away
 use Rattle.std.proofs.Common.{◌≡◌, ℕ, zero, suc, ◌-◌, ◌≤◌, List, [], ◌∷◌, ◌++◌, reverse, length, take, drop, sym, refl, ap, ◌∙◌, arith}
 use mathlib.Core.List.{reverse_aux-eq}
-use Rattle.std.proofs.lemmas.List.{length-append, take_all, take-take, take-append-le}
+use Rattle.std.proofs.lemmas.List.{length-append, take_all, take-append-le}
 use Rattle.disassembly.specs.Search.{Place}
 use Rattle.disassembly.specs.Disassembly.{reversed, past, away_of}
 
@@ -28,17 +28,17 @@ reversed_past (suc n) (x ∷ l) =
     reversed_past n l ∙ sym (take-append-le (length l - n) (reversed l) (x ∷ []) e) ∙ ap (λ m. take m (reversed l ++ (x ∷ []))) k
 
 -- what `reverse` leaves of the first records, and the later ones
-pub turned : {A : Type 0} (l after : List A) (count k : ℕ) → k ≡ count → after ≡ reverse (take k l) → after ++ drop k l ≡ reversed (take count l) ++ drop count l
-turned l after count k e h = ap (λ r. r ++ drop k l) (h ∙ reversed_is (take k l)) ∙ ap (λ m. reversed (take m l) ++ drop m l) e
+pub turned : {A : Type 0} (l after : List A) (n : ℕ) → after ≡ reverse (take n l) → after ++ drop n l ≡ reversed (take n l) ++ drop n l
+turned l after n h = ap (λ r. r ++ drop n l) (h ∙ reversed_is (take n l))
 
 past_drop : (n : ℕ) (l : List ℕ) → past n l ≡ drop n l
 past_drop zero l = refl
 past_drop (suc n) [] = refl
 past_drop (suc n) (x ∷ l) = past_drop n l
 
-pub away_taken : (p : Place) (left : List ℕ) (count : ℕ) → take count left ≡ reversed p.left → count ≡ length p.left → take (count - 3) left ≡ away_of p
-away_taken p left count e n =
-    sym (take-take (count - 3) count left (omega arith))
-    ∙ ap (take (count - 3)) e
+pub away_taken : (p : Place) (left : List ℕ) → left ≡ reversed p.left → take (length left - 3) left ≡ away_of p
+away_taken p left e =
+    let n : length left ≡ length p.left = ap length e ∙ reversed_length p.left in
+    ap (take (length left - 3)) e
     ∙ ap (λ k. take (k - 3) (reversed p.left)) n
     ∙ sym (ap reversed (past_drop 3 p.left) ∙ reversed_past 3 p.left)

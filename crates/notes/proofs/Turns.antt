@@ -1,25 +1,26 @@
 -- One table taken away, and the next: what rows and masks mean then.
 --
---   joined_rows                    two rows, each with the other's bit put in
---   symmetric_after                the joins still go both ways
---   noted_in, taken_in             the notes and the part after one table, by rows and masks
---   notes_on, remaining_on, notes_end, remaining_end
---                                  all notes and what remains, one table on and at the end
-use Rattle.std.proofs.Common.{◌≡◌, ℕ, ◌+◌, ◌<◌, ◌≤◌, Bool, true, false, ◌&&◌, ◌||◌, eqb, List, [], ◌∷◌, ◌++◌, length, get_or, take, drop, set, sym, refl, ap, ◌∙◌, ⊎_elim, arith, length-set, get_or-set_other, get_or-set_same}
+--   joined_rows              two rows, each with the other's bit put in
+--   symmetric_joined         the joins then go both ways
+--   notes_in J u f a         the notes of taking u away where f and a are the two ends that stay; the tables in use play no part
+--   joins_after J u f a      the joins then
+--   noted_in, taken_in       the notes and the part after one table, by rows and masks
+use Rattle.std.proofs.Common.{◌≡◌, ℕ, ◌<◌, Bool, true, false, not, ◌&&◌, ◌||◌, eqb, List, length, get_or, set, sym, refl, ap, ◌∙◌, ⊎_elim, arith, length-set, get_or-set_other, get_or-set_same}
 use lib.Bits.{bit_or}
 use Rattle.std.proofs.lemmas.Nat.{one_shl}
-use Rattle.std.proofs.lemmas.List.{drop_more, drop_all, get_or-take, length-take-le}
 use Rattle.std.proofs.lemmas.Bool.{cases_eq, eq-eqb, ne_eqb}
 use Rattle.std.proofs.lemmas.Bool.Decides.{nat_tests}
 use Rattle.theory.specs.Graph.{same_pair}
 use Rattle.theory.specs.Build.{with_join}
+use Rattle.theory.specs.declared.step.Step.{Step}
 use Rattle.bits.specs.Rows.{bit}
 use Rattle.bits.proofs.Bit.{or_bit}
 use Rattle.disassembly.specs.Walks.{without}
-use Rattle.disassembly.specs.Disassembly.{spliced, nearest, nearest_of, taken, noted, remaining, all_notes}
+use Rattle.disassembly.specs.Disassembly.{spliced, nearest, nearest_of, taken, noted, part_of, notes_of}
 use Rattle.disassembly.proofs.Undo.{part_path}
-use Rattle.disassembly.proofs.Away.{taken_is, remaining_none, remaining_more, notes_none, notes_more}
-use Rattle.notes.specs.Notes.{joins_in, part_in, Symmetric, tables_of, others, notes_in, joins_after}
+use Rattle.disassembly.proofs.Away.{taken_is}
+use Rattle.notes.specs.Masks.{tables_of}
+use Rattle.notes.specs.Notes.{joins_in, part_in, Symmetric, others}
 use Rattle.notes.proofs.Masks.{shl}
 
 -- ---- a join put in
@@ -47,13 +48,19 @@ joined_rows rows a b long la lb x y =
     pair_put a b x y (joins_in rows x y) (joins_in (with_bit rows a b) x y) (joins_in (with_bit (with_bit rows a b) b a) x y)
     (one_row rows a b (omega arith) lb x y) (one_row (with_bit rows a b) b a lb' la x y)
 
+pub symmetric_joined : (J K : ℕ → ℕ → Bool) (f a : ℕ) → Symmetric J → ((x y : ℕ) → K x y ≡ with_join f a J x y) → Symmetric K
+symmetric_joined J K f a s means x y = means x y ∙ turned ∙ sym (means y x)
+  where
+    turned : with_join f a J x y ≡ with_join f a J y x
+    turned = let e : J x y ≡ J y x = s x y in grind (arith, nat_tests)
+
 -- ---- one table
 
-pub symmetric_after : (J K : ℕ → ℕ → Bool) (u f a : ℕ) → Symmetric J → ((x y : ℕ) → K x y ≡ joins_after J u f a x y) → Symmetric K
-symmetric_after J K u f a s means x y = means x y ∙ turned ∙ sym (means y x)
-  where
-    turned : joins_after J u f a x y ≡ joins_after J u f a y x
-    turned = let e : J x y ≡ J y x = s x y in grind (arith, nat_tests)
+abbrev pub notes_in : (ℕ → ℕ → Bool) → ℕ → ℕ → ℕ → List Step
+notes_in J u f a = notes_of u f a (others J u f a) (part_of (λ _. false) J)
+
+abbrev pub joins_after : (ℕ → ℕ → Bool) → ℕ → ℕ → ℕ → ℕ → ℕ → Bool
+joins_after J u f a = with_join f a (λ x y. (not (eqb u x) && not (eqb u y)) && J x y)
 
 pub noted_in : (parent rank : ℕ → ℕ) (u tables : ℕ) (rows : List ℕ)
     → noted parent rank u (part_in tables rows) ≡ notes_in (joins_in rows) u (parent u) (nearest rank (parent u) (tables_of (get_or rows u 0)))
@@ -72,43 +79,3 @@ taken_in parent rank u tables tables' rows rows' used joins =
     ∙ ap (λ a. spliced u (parent u) a (part_in tables rows)) (nearest_in parent rank u tables rows)
     ∙ part_path (spliced u (parent u) (nearest rank (parent u) (tables_of (get_or rows u 0))) (part_in tables rows)) (part_in tables' rows')
     (λ x. sym (used x)) (λ x y. sym (joins x y))
-
--- ---- the tables left
-
-module _ (parent rank : ℕ → ℕ) (left : List ℕ) (n i tables : ℕ) (rows : List ℕ) (long : length left ≡ 64) (few : n ≤ 64) where
-  next : i < n → drop i (take n left) ≡ get_or left i 0 ∷ drop (i + 1) (take n left)
-  next h =
-      let size : length (take n left) ≡ n = length-take-le n left (omega arith) in
-      drop_more (take n left) i 0 (omega arith) ∙ ap (λ x. x ∷ drop (i + 1) (take n left)) (get_or-take n left i 0 h)
-
-  none : n ≤ i → drop i (take n left) ≡ []
-  none h = let size : length (take n left) ≡ n = length-take-le n left (omega arith) in drop_all i (take n left) (omega arith)
-
-  module _ (tables' : ℕ) (rows' : List ℕ) (u f a : ℕ) (at : u ≡ get_or left i 0) (up : f ≡ parent u) (near : a ≡ nearest rank f (tables_of (get_or rows u 0))) (h : i < n) where
-    pub notes_first : all_notes parent rank (drop i (take n left)) (part_in tables rows) ≡ notes_in (joins_in rows) u f a ++ all_notes parent rank (drop (i + 1) (take n left)) (taken parent rank u (part_in tables rows))
-    notes_first =
-        ap (λ l. all_notes parent rank l (part_in tables rows)) (next h ∙ ap (λ x. x ∷ drop (i + 1) (take n left)) (sym at))
-        ∙ notes_more parent rank u (drop (i + 1) (take n left)) (part_in tables rows)
-        ∙ ap (λ l. l ++ all_notes parent rank (drop (i + 1) (take n left)) (taken parent rank u (part_in tables rows)))
-        (noted_in parent rank u tables rows ∙ ap (λ g. notes_in (joins_in rows) u g (nearest rank g (tables_of (get_or rows u 0)))) (sym up) ∙ ap (notes_in (joins_in rows) u f) (sym near))
-
-    module _ (used : (x : ℕ) → bit tables' x ≡ without u (bit tables) x) (joins : (x y : ℕ) → joins_in rows' x y ≡ joins_after (joins_in rows) u f a x y) where
-      part_on : taken parent rank u (part_in tables rows) ≡ part_in tables' rows'
-      part_on =
-          taken_in parent rank u tables tables' rows rows' used
-          (λ x y. joins x y ∙ ap (λ b. joins_after (joins_in rows) u f b x y) near ∙ ap (λ g. joins_after (joins_in rows) u g (nearest rank g (tables_of (get_or rows u 0))) x y) up)
-
-      pub notes_on : all_notes parent rank (drop i (take n left)) (part_in tables rows) ≡ notes_in (joins_in rows) u f a ++ all_notes parent rank (drop (i + 1) (take n left)) (part_in tables' rows')
-      notes_on = notes_first ∙ ap (λ p. notes_in (joins_in rows) u f a ++ all_notes parent rank (drop (i + 1) (take n left)) p) part_on
-
-      pub remaining_on : remaining parent rank (drop i (take n left)) (part_in tables rows) ≡ remaining parent rank (drop (i + 1) (take n left)) (part_in tables' rows')
-      remaining_on =
-          ap (λ l. remaining parent rank l (part_in tables rows)) (next h ∙ ap (λ x. x ∷ drop (i + 1) (take n left)) (sym at))
-          ∙ remaining_more parent rank u (drop (i + 1) (take n left)) (part_in tables rows)
-          ∙ ap (remaining parent rank (drop (i + 1) (take n left))) part_on
-
-  pub notes_end : n ≤ i → all_notes parent rank (drop i (take n left)) (part_in tables rows) ≡ []
-  notes_end h = ap (λ l. all_notes parent rank l (part_in tables rows)) (none h) ∙ notes_none parent rank (part_in tables rows)
-
-  pub remaining_end : n ≤ i → remaining parent rank (drop i (take n left)) (part_in tables rows) ≡ part_in tables rows
-  remaining_end h = ap (λ l. remaining parent rank l (part_in tables rows)) (none h) ∙ remaining_none parent rank (part_in tables rows)

@@ -1,5 +1,6 @@
 //! Tables taken away from a graph one after another, and the notes of it laid into lent records. This is the inner part of the
-//! build request, which proves what `lay_list` asks for; a caller of its own has no need of it.
+//! build request; a caller of its own has no need of it.
 #![tactic(auto)]
 
 pub mod notes;
+mod tables;

@@ -7,10 +7,8 @@
 use Rattle.std.specs.Prelude.{ℕ}
 use Rattle.rejections.specs.Fault.{query_number, query_layer, query_place}
 use Rattle.texts.specs.Fault.{text_number, text_value}
-use Rattle.refusals.specs.Build.{build_number, build_value}
-use Rattle.refusals.specs.Fault.{replay_number}
-use Rattle.refusals.specs.declared.fault.ReplayFault.{ReplayFault}
-use Rattle.refusals.specs.declared.fault.ReplayFault.TheVariants.{Store, HasJoins, NotTriangle, InUse, NotInUse, Unused}
+use Rattle.refusals.specs.Build.{build_number, build_value, build_layer}
+use Rattle.refusals.specs.Fault.{replay_number, replay_layer, replay_place}
 use Rattle.outcomes.specs.declared.fault.ProgramFault.{ProgramFault}
 use Rattle.outcomes.specs.declared.fault.ProgramFault.TheVariants.{Text, Replay, Query, Build}
 
@@ -20,27 +18,11 @@ fault_number (Replay f) = replay_number f
 fault_number (Query f) = query_number f
 fault_number (Build f) = build_number f
 
-abbrev pub replay_layer : ReplayFault → ℕ
-replay_layer (Store k f) = 2
-replay_layer HasJoins = 3
-replay_layer NotTriangle = 3
-replay_layer (InUse k t) = 3
-replay_layer (NotInUse k t) = 3
-replay_layer (Unused t) = 3
-
-abbrev pub replay_place : ReplayFault → ℕ
-replay_place (Store k f) = k
-replay_place HasJoins = 0
-replay_place NotTriangle = 0
-replay_place (InUse k t) = k
-replay_place (NotInUse k t) = k
-replay_place (Unused t) = t
-
 abbrev pub fault_layer : ProgramFault → ℕ
 fault_layer (Text f) = 1
 fault_layer (Replay f) = replay_layer f
 fault_layer (Query f) = query_layer f
-fault_layer (Build f) = 3
+fault_layer (Build f) = build_layer f
 
 abbrev pub fault_place : ProgramFault → ℕ
 fault_place (Text f) = text_value f

@@ -1,8 +1,10 @@
 //! Why a program prints a refusal: its number, its layer and its place.
 ghost use Rattle.std.specs.Prelude.{◌≡◌};
+ghost use Rattle.graph.specs.Layer.{layer_number};
 ghost use Rattle.outcomes.specs.Fault.{fault_number, fault_layer, fault_place};
 ghost use Rattle.outcomes.specs.declared.fault.ProgramFault.TheVariants.{Text, Replay, Query, Build};
 
+use graph::layer::Layer;
 use refusals::build::BuildFault;
 use refusals::fault::ReplayFault;
 use rejections::fault::QueryFault;
@@ -62,16 +64,15 @@ impl ProgramFault {
         }
     }
 
-    /// 1 text, 2 store, 3 replay and build, 4 rows.
-    pub fn layer(self) -> u32
-        ensures { result ≡ fault_layer self }
+    /// The layer that it comes from.
+    pub fn layer(self) -> Layer
+        ensures { layer_number result ≡ fault_layer self }
     {
         match self {
-            ProgramFault::Text(_) => 1,
-            ProgramFault::Replay(ReplayFault::Store { step: _, fault: _ }) => 2,
-            ProgramFault::Replay(_) => 3,
+            ProgramFault::Text(_) => Layer::Text,
+            ProgramFault::Replay(f) => f.layer(),
             ProgramFault::Query(f) => f.layer(),
-            ProgramFault::Build(_) => 3,
+            ProgramFault::Build(f) => f.layer(),
         }
     }
 
@@ -80,16 +81,8 @@ impl ProgramFault {
         ensures { result ≡ fault_place self }
     {
         match self {
-            ProgramFault::Text(TextFault::BadForm { place }) => place,
-            ProgramFault::Text(TextFault::Misplaced { place }) => place,
-            ProgramFault::Text(TextFault::OutOfLimits { place }) => place,
-            ProgramFault::Text(TextFault::TooFew { needed }) => needed,
-            ProgramFault::Replay(ReplayFault::Store { step, fault: _ }) => step,
-            ProgramFault::Replay(ReplayFault::HasJoins) => 0,
-            ProgramFault::Replay(ReplayFault::NotTriangle) => 0,
-            ProgramFault::Replay(ReplayFault::InUse { step, table: _ }) => step,
-            ProgramFault::Replay(ReplayFault::NotInUse { step, table: _ }) => step,
-            ProgramFault::Replay(ReplayFault::Unused { table }) => table as usize,
+            ProgramFault::Text(f) => f.place(),
+            ProgramFault::Replay(f) => f.place(),
             ProgramFault::Query(f) => f.place(),
             ProgramFault::Build(f) => f.value(),
         }

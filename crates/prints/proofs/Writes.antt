@@ -17,9 +17,9 @@ use Rattle.texts.specs.ListWrite.{over, room_for, laid_if}
 use Rattle.texts.specs.declared.fault.TextFault.{TextFault}
 use Rattle.texts.specs.declared.fault.TextFault.TheVariants.{OutOfLimits, TooFew}
 use Rattle.texts.proofs.Writing.{laid_room}
-use Rattle.prints.specs.GraphText.{graph_line, text_of_graph, graph_answer, graph_written}
+use Rattle.prints.specs.GraphText.{join_lines, graph_line, text_of_graph, graph_answer, graph_written}
 use Rattle.prints.specs.Refusal.{refusal_line, refusal_answer, refusal_written}
-use Rattle.prints.proofs.Rows.{rest_rows, lines, all_rows}
+use Rattle.prints.proofs.Rows.{rest_rows, all_rows}
 
 -- as many bytes as are needed are lent
 pub room_yes : (needed b : ℕ) → needed ≤ b → room_for needed b ≡ Ok needed
@@ -32,12 +32,12 @@ room_no needed b h = cond-true (ltb b needed) (Err (TooFew needed)) (Ok needed) 
 -- ---- a graph
 
 -- the G line and the lines of all rows are the whole text
-pub graph_laid : (m : Graph) (out : List ℕ) → 17 ≤ length out → laid (laid_line out 0 (graph_line m)) 17 (lines (rest_rows m 0)) ≡ laid out 0 (text_of_graph m)
+pub graph_laid : (m : Graph) (out : List ℕ) → 17 ≤ length out → laid (laid_line out 0 (graph_line m)) 17 (join_lines (rest_rows m 0)) ≡ laid out 0 (text_of_graph m)
 graph_laid m out h =
     let long : length (line_text (graph_line m)) ≡ 17 = line_length (graph_line m) in
-    ap (λ o. laid o 17 (lines (rest_rows m 0))) (laid_room out 0 (graph_line m) h)
-    ∙ laid_two out 0 17 (line_text (graph_line m)) (lines (rest_rows m 0)) (omega arith)
-    ∙ ap (λ l. laid out 0 (line_text (graph_line m) ++ lines l)) (all_rows m)
+    ap (λ o. laid o 17 (join_lines (rest_rows m 0))) (laid_room out 0 (graph_line m) h)
+    ∙ laid_two out 0 17 (line_text (graph_line m)) (join_lines (rest_rows m 0)) (omega arith)
+    ∙ ap (λ l. laid out 0 (line_text (graph_line m) ++ join_lines l)) (all_rows m)
 
 -- n is the number of joins
 module _ (m : Graph) (n : ℕ) (counted : n ≡ size m) (out : List ℕ) where
@@ -54,12 +54,12 @@ module _ (m : Graph) (n : ℕ) (counted : n ≡ size m) (out : List ℕ) where
   graph_enough h = ap (λ k. room_for (17 + 17 * k) (length out)) (sym counted) ∙ room_yes (17 + 17 * n) (length out) h
 
   -- a G line of the tables and joins, and then the lines of all rows, are what is written
-  pub graph_full : (t : ℕ) (one after : List ℕ) → t ≡ table_count m → 17 + 17 * n ≤ length out → one ≡ laid_line out 0 (line_of 71 (FirstTwo t n)) → after ≡ laid one 17 (lines (rest_rows m 0))
+  pub graph_full : (t : ℕ) (one after : List ℕ) → t ≡ table_count m → 17 + 17 * n ≤ length out → one ≡ laid_line out 0 (line_of 71 (FirstTwo t n)) → after ≡ laid one 17 (join_lines (rest_rows m 0))
       → after ≡ graph_written m out
   graph_full t one after tables h headed rowed =
       let line : line_of 71 (FirstTwo t n) ≡ graph_line m = ap₂ (λ a b. line_of 71 (FirstTwo a b)) tables counted in
       rowed
-      ∙ ap (λ o. laid o 17 (lines (rest_rows m 0))) (headed ∙ ap (laid_line out 0) line)
+      ∙ ap (λ o. laid o 17 (join_lines (rest_rows m 0))) (headed ∙ ap (laid_line out 0) line)
       ∙ graph_laid m out (omega arith)
       ∙ sym (ap (λ (r : Result ℕ TextFault). laid_if r out (text_of_graph m)) (graph_enough h))
 

@@ -1,53 +1,44 @@
 //! A graph written as a G line and one J line a join.
 ghost use Rattle.std.specs.Prelude.{◌≡◌, ℕ, ◌+◌, ◌-◌, ◌*◌, ◌<◌, ◌≤◌, length};
-ghost use Rattle.std.specs.List.{flat_map as all_of};
 ghost use Rattle.theory.specs.Graph.{table_count, size};
-ghost use Rattle.theory.specs.Listing.{row_from, joins_of, ListsJoins};
-ghost use Rattle.lines.specs.Text.{line_text};
+ghost use Rattle.graph.specs.Neighbours.{neighbours_from};
+ghost use Rattle.theory.specs.Listing.{joins_of, ListsJoins};
 ghost use Rattle.writer.specs.Laid.{laid};
-ghost use Rattle.prints.specs.GraphText.{join_line, graph_answer, graph_written};
+ghost use Rattle.prints.specs.GraphText.{join_lines, row_above, graph_answer, graph_written};
 
 use graph::graph::ReadableGraph;
+use graph::neighbours::neighbours_of;
 use texts::fault::TextFault;
-use writer::line::{put_first_two, put_last_two};
+use writer::line::put_line;
 
 /// How many tables above `v` are joined with it.
 fn row_count<G: ReadableGraph>(graph: &G, v: u32) -> usize
     requires { v < table_count (G.meaning graph.now) }
-    ensures { result ≡ length (row_from (G.meaning graph.now) v (v + 1) (table_count (G.meaning graph.now) - (v + 1))) }
+    ensures { result ≡ length (neighbours_from (G.meaning graph.now) v (v + 1)) }
 {
-    let mut count = 0;
-    let mut bound = v + 1;
-    while let Some(w) = graph.next_neighbour(v, bound) {
-        count += 1;
-        bound = w + 1;
-    }
-    count
+    neighbours_of(graph, v, v + 1).count()
 }
 
 /// How many joins a graph has.
 pub fn count_joins<G: ReadableGraph>(graph: &G) -> usize
     ensures { result ≡ size (G.meaning graph.now) }
 {
-    let mut count = 0;
-    for v in 0..graph.tables() {
-        count += row_count(graph, v);
-    }
-    count
+    (0..graph.tables()).map(|v| row_count(graph, v)).sum()
 }
 
 /// The J lines of the joins of `v` with tables above it, from `at` on; where the next line goes.
+// stays: bytes and the place in them are two arguments, as of `put_line`. The place is counted on, since it is what the row gives
+// back: with the row's lines numbered by `enumerate` the row would be gone through again for it
 fn put_row<G: ReadableGraph>(graph: &G, out: &mut [u8], at: usize, v: u32) -> usize
-    requires { (v < table_count (G.meaning graph.now)) × (at + 17 * length (row_from (G.meaning graph.now) v (v + 1) (table_count (G.meaning graph.now) - (v + 1))) ≤ length out.old) }
-    ensures next { result ≡ at + 17 * length (row_from (G.meaning graph.now) v (v + 1) (table_count (G.meaning graph.now) - (v + 1))) }
-    ensures written { out.new ≡ laid out.old at (all_of (λ p. line_text (join_line p)) (row_from (G.meaning graph.now) v (v + 1) (table_count (G.meaning graph.now) - (v + 1)))) }
+    requires { (v < table_count (G.meaning graph.now))
+        × (at + 17 * length (row_above (G.meaning graph.now) v) ≤ length out.old) }
+    ensures next { result ≡ at + 17 * length (row_above (G.meaning graph.now) v) }
+    ensures written { out.new ≡ laid out.old at (join_lines (row_above (G.meaning graph.now) v)) }
 {
     let mut at = at;
-    let mut bound = v + 1;
-    while let Some(w) = graph.next_neighbour(v, bound) {
-        put_last_two(out, at, b'J', v, w);
+    for w in neighbours_of(graph, v, v + 1) {
+        put_line(out, at, b'J', [None, Some(v), Some(w)]);
         at += 17;
-        bound = w + 1;
     }
     at
 }
@@ -66,7 +57,8 @@ pub fn write_graph<G: ReadableGraph>(graph: &G, out: &mut [u8]) -> Result<usize,
     if out.len() < needed {
         return Err(TextFault::TooFew { needed });
     }
-    put_first_two(out, 0, b'G', tables, joins as u32);
+    put_line(out, 0, b'G', [Some(tables), Some(joins as u32), None]);
+    // stays: how many lines a row has is known only when it is written, so each row takes its place from the one before
     let mut at = 17;
     for v in 0..tables {
         at = put_row(graph, out, at, v);

@@ -3,7 +3,7 @@ ghost use Rattle.std.specs.Prelude.{◌≡◌, length};
 ghost use Rattle.prints.specs.Refusal.{refusal_answer, refusal_written};
 
 use texts::fault::TextFault;
-use writer::line::put_three;
+use writer::line::put_line;
 
 /// Writes the X line of a refusal over the first bytes of `out`, and says how many they are. A refusal writes nothing.
 pub fn write_refusal(
@@ -21,6 +21,6 @@ pub fn write_refusal(
     if out.len() < 17 {
         return Err(TextFault::TooFew { needed: 17 });
     }
-    put_three(out, 0, b'X', number, layer, place);
+    put_line(out, 0, b'X', [Some(number), Some(layer), Some(place)]);
     Ok(17)
 }

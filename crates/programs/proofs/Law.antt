@@ -10,8 +10,9 @@ use Rattle.std.proofs.lemmas.Bool.{eqb-true, eq-eqb}
 use Rattle.std.proofs.lemmas.Bool.Decides.{nat_tests}
 use Rattle.construction.specs.Replay.{replayed}
 use Rattle.refusals.specs.declared.fault.ReplayFault.{ReplayFault}
-use Rattle.construction.proofs.Laws.{accepted_exactly, accepted_with_room, accepted_size, replayed_tables}
+use Rattle.construction.proofs.Laws.{told_laws, accepted_size, replayed_tables}
 use Rattle.lines.specs.Read.{line_at}
+use Rattle.lines.specs.declared.line.BadByte.{BadByte}
 use Rattle.lines.specs.Text.{line_text}
 use Rattle.prints.specs.GraphText.{text_of_graph, graph_length}
 use Rattle.prints.specs.Refusal.{refusal_line}
@@ -32,7 +33,7 @@ use Rattle.outcomes.specs.Fault.{fault_number, fault_layer, fault_place}
 use Rattle.programs.specs.Replay.{text_then, replay_last, left_by, left, list_played, replay_told}
 use Rattle.programs.specs.ReplayLaw.{BuildsGraph, Refuses}
 use Rattle.outcomes.specs.declared.fault.ProgramFault.{ProgramFault}
-use Rattle.outcomes.specs.declared.fault.ProgramFault.TheVariants.{Text, Replay, Query, Build}
+use Rattle.programs.proofs.Prints.{number_small, layer_small}
 use Rattle.programs.proofs.Told.{clamped_simple, play_last}
 
 -- a number of tables within the limits is taken as it is
@@ -49,14 +50,14 @@ pub record Accepted (text : List ℕ) (l : List Step) (g : Graph) : Type 0 where
 
 left_back : (r : Result Unit ReplayFault) (g h : Graph) → replay_last (left_by r g) ≡ Ok h → (r ≡ Ok tt) × (g ≡ h)
 left_back (Ok u) g h e = (refl, cc)
-left_back (Err f) g h e = let z : ◌≡◌ {A = ℕ} 0 1 = cc in absurd (omega arith)
+left_back (Err f) g h e = cc
 
 end_back : (text : List ℕ) (at : ℕ) (b : Bool) (r : Result Graph ProgramFault) (g : Graph) → eqb at (length text) ≡ b
     → text_then (cond b (Ok tt) (end_of at (line_at text at))) (λ _. r) ≡ Ok g → (at ≡ length text) × (r ≡ Ok g)
 end_back text at true r g test e = (eqb-true at (length text) test, e)
 end_back text at false r g test e = let z : ◌≡◌ {A = ℕ} 0 1 = ended_none (line_at text at) e in absurd (omega arith)
   where
-    ended_none : (q : Result _ ℕ) → text_then (end_of at q) (λ _. r) ≡ Ok g → ◌≡◌ {A = ℕ} 0 1
+    ended_none : (q : Result _ BadByte) → text_then (end_of at q) (λ _. r) ≡ Ok g → ◌≡◌ {A = ℕ} 0 1
     ended_none (Ok x) e = cc
     ended_none (Err x) e = cc
 
@@ -67,7 +68,7 @@ accepted_by text l g (Ok h) read e =
     let ended = end_back text h.end (eqb h.end (length text)) (replay_last (left p)) g refl e in
     let done = left_back p.told p.graph g ended.1 in
     record { heading = h; read = read; ended = ended.0; told = done.0; left_graph = done.1 }
-accepted_by text l g (Err f) read e = let z : ◌≡◌ {A = ℕ} 0 1 = cc in absurd (omega arith)
+accepted_by text l g (Err f) read e = cc
 
 accepted : (text : List ℕ) (l : List Step) (g : Graph) → replay_told text l ≡ Ok g → Accepted text l g
 unfolding replay_told
@@ -93,7 +94,7 @@ law_built text l g simple e =
       simple = simple;
       listable = subst (λ k. Listable k h.triangle steps) (sym n) able;
       reads = whole ∙ ap (λ k. list_text k h.triangle steps) (sym n);
-      legal = (accepted_exactly 2016 m h.triangle steps (clamped_simple h.tables) (replayed 2016 m h.triangle steps).told g refl (sym a.left_graph) refl).0 a.told;
+      legal = ((told_laws 2016 m h.triangle steps (clamped_simple h.tables) (replayed 2016 m h.triangle steps).told g refl (sym a.left_graph)).accepted refl).0 a.told;
       prints = refl;
     }
 
@@ -133,7 +134,7 @@ module _ (text : List ℕ) (l : List Step) (room : 2013 ≤ length l) (g : Graph
   plays : (replayed 2016 m t s).told ≡ Ok tt
   plays =
       let few : length s + 3 ≤ 2016 = able.few in
-      (accepted_with_room 2016 m t s (clamped_simple (table_count g)) (replayed 2016 m t s).told (replayed 2016 m t s).graph refl refl refl (omega arith)).1
+      ((told_laws 2016 m t s (clamped_simple (table_count g)) (replayed 2016 m t s).told (replayed 2016 m t s).graph refl refl).room refl (omega arith)).1
       (g, sym (unclamped (table_count g) able.least able.most), legal)
 
   pub is_accepted : replay_told text l ≡ Ok (replayed 2016 m t s).graph
@@ -145,24 +146,12 @@ module _ (text : List ℕ) (l : List Step) (room : 2013 ≤ length l) (g : Graph
       ∙ ap (λ x. replay_last (left (replayed 2016 m t x))) same
       ∙ ap (λ r. replay_last (left_by r (replayed 2016 m t s).graph)) plays
 
-pub number_small : (f : ProgramFault) → fault_number f ≤ 99999
-number_small (Text f) = grind arith
-number_small (Replay f) = grind arith
-number_small (Query f) = grind arith
-number_small (Build f) = grind arith
-
-pub layer_small : (f : ProgramFault) → fault_layer f ≤ 99999
-layer_small (Text f) = omega arith
-layer_small (Replay f) = grind arith
-layer_small (Query f) = grind arith
-layer_small (Build f) = omega arith
-
 pub law_refused : (text : List ℕ) (l : List Step) (f : ProgramFault) → 2013 ≤ length l → fault_place f ≤ 99999 → replay_told text l ≡ Err f
     → Refuses text (line_text (refusal_line (fault_number f) (fault_layer f) (fault_place f)))
 law_refused text l f room near e = record {
   none = λ g t s able reads legal.
       let y = is_accepted text l room g t s able reads legal in
-      let z : ◌≡◌ {A = ℕ} 0 1 = cc in omega arith;
+      cc;
   number = fault_number f;
   layer = fault_layer f;
   place = fault_place f;

@@ -5,12 +5,12 @@ use Rattle.refusals.specs.Fault.{replay_step}
 use Rattle.construction.specs.Replay.{Building, Played, start_answer, started, step_answer, step_after, close_from, close_answer, onward, steps_from, replayed}
 use Rattle.refusals.specs.declared.fault.ReplayFault.{ReplayFault}
 use Rattle.refusals.specs.declared.fault.ReplayFault.TheVariants.{Store, HasJoins, NotTriangle, InUse, NotInUse, Unused}
-use Rattle.construction.proofs.Laws.{refused_at_first}
+use Rattle.construction.proofs.Laws.{told_laws}
 use Rattle.theory.specs.Graph.{Graph, Simple, table_count, no_joins}
 use Rattle.theory.specs.declared.step.Step.{Step}
 use Rattle.theory.specs.declared.step.Step.TheVariants.{Edge, Node}
 use Rattle.theory.specs.declared.step.Triangle.{Triangle}
-use Rattle.outcomes.specs.Fault.{replay_place}
+use Rattle.refusals.specs.Fault.{replay_place}
 
 -- the table of 14, or 0
 abbrev table_named : ReplayFault → ℕ
@@ -79,7 +79,7 @@ replay_near c n t l f s told =
     let step : replay_step f ≤ length l =
     ⊎_elim
     (λ (h : 0 < replay_step f).
-    let r = refused_at_first c m t l s (replayed c m t l).told (replayed c m t l).graph refl refl refl f told (omega arith) in
+    let r = (told_laws c m t l s (replayed c m t l).told (replayed c m t l).graph refl refl).refused refl f told (omega arith) in
     let long : length (drop (replay_step f - 1) l) ≡ suc (length r.2) = ap length r.4 in
     let cut = length-drop (replay_step f - 1) l in
     let g : replay_step f ≤ length l = omega arith in g)

@@ -1,11 +1,10 @@
 -- The program's answer, exit by exit.
 --
 --   clamped_simple         a new graph is simple, whatever number of tables was asked for
---   play_off               a replay that is refused
+--   play_near              what a replay that is refused names
 --   list_off, end_off      a text that is refused: the list, or what follows it
---   played_as, part_near   the replay of the records that the list fills
 --   play_last              a text that is accepted, and the replay of its list
-use Rattle.std.proofs.Common.{◌≡◌, ℕ, ◌+◌, ◌-◌, ◌≤◌, List, length, take, IfErr, Ok, Err, Result, sym, ap, ◌∙◌, arith, length-take}
+use Rattle.std.proofs.Common.{◌≡◌, ℕ, ◌+◌, ◌≤◌, List, length, IfErr, Ok, Err, Result, sym, ap, ◌∙◌, arith}
 use Rattle.std.proofs.lemmas.Bool.Decides.{nat_tests}
 use Rattle.bits.specs.declared.table.BitTable.{BitTable}
 use Rattle.construction.specs.Replay.{replayed}
@@ -18,8 +17,8 @@ use Rattle.theory.specs.Graph.{Graph, Simple, no_joins, clamped}
 use Rattle.theory.specs.declared.step.Step.{Step}
 use Rattle.theory.specs.declared.step.Triangle.{Triangle}
 use Rattle.theory.proofs.Sizes.{no_joins_simple}
-use Rattle.outcomes.specs.Fault.{replay_place}
-use Rattle.programs.specs.Replay.{meant, text_then, replay_last, left_by, left, list_played, replay_told}
+use Rattle.refusals.specs.Fault.{replay_place}
+use Rattle.programs.specs.Replay.{meant, text_then, replay_last, left, list_played, replay_told}
 use Rattle.outcomes.specs.declared.fault.ProgramFault.{ProgramFault}
 use Rattle.outcomes.specs.declared.fault.ProgramFault.TheVariants.{Text, Replay}
 use Rattle.programs.proofs.Near.{replay_near}
@@ -37,11 +36,6 @@ module _ (m : Graph) (n : ℕ) (t : Triangle) (l : List Step) (r : Result Unit R
     (new : m ≡ no_joins (clamped n)) (answer : r ≡ (replayed 2016 m t l).told) (was : r ≡ Err f) (gave : final ≡ Err x) (is : x ≡ f) where
   told : (replayed 2016 (no_joins (clamped n)) t l).told ≡ Err f
   told = sym (ap (λ g. (replayed 2016 g t l).told) new) ∙ sym answer ∙ was
-
-  pub play_off : meant final ≡ left (replayed 2016 (no_joins (clamped n)) t l)
-  play_off =
-      ap (λ (q : Result BitTable ReplayFault). meant q) (gave ∙ ap (λ e. Err e) is)
-      ∙ sym (ap (λ q. left_by q (replayed 2016 (no_joins (clamped n)) t l).graph) told)
 
   pub play_near : IfErr final (λ e. replay_place e ≤ 64 + length l)
   play_near = refused_on final x f (λ e. replay_place e ≤ 64 + length l) gave is (replay_near 2016 (clamped n) t l f (clamped_simple n) told)
@@ -67,14 +61,3 @@ pub carried : (r : Result BitTable ReplayFault) (final : Result BitTable Program
     → meant final ≡ replay_last (meant r)
 carried r final f x was gave is =
     ap (λ (q : Result BitTable ProgramFault). meant q) (gave ∙ ap (λ e. Err e) is) ∙ sym (ap (λ (q : Result BitTable ReplayFault). replay_last (meant q)) was)
-
--- the replay of the records that the list fills
-pub played_as : (h : Heading) (records after : List Step) (r : Result Graph ReplayFault) → after ≡ records
-    → r ≡ left (replayed 2016 (no_joins (clamped h.tables)) h.triangle (take (h.steps - 0) after)) → r ≡ left (list_played h records)
-played_as h records after r same e =
-    e
-    ∙ ap (λ k. left (replayed 2016 (no_joins (clamped h.tables)) h.triangle (take k after))) (omega arith)
-    ∙ ap (λ x. left (list_played h x)) same
-
-pub part_near : (k : ℕ) (l : List Step) (p : ℕ) → length l ≤ 2013 → p ≤ 64 + length (take (k - 0) l) → p ≤ 99999
-part_near k l p few near = let cut = length-take (k - 0) l in omega arith

@@ -93,4 +93,4 @@ module _ (text : List ℕ) (len : ℕ) (steps : List Step) (r : ℕ) (text' : Li
       (λ room. subst (Replays part) (sym (ap (shown b) bad ∙ shown_refusal f b (line room))) (inr (law_refused part steps f records near (sym answer ∙ bad))))
     where
       none : (g : Graph) → ◌≡◌ {A = Result Graph ProgramFault} (Err f) (Ok g) → Simple g
-      none g e = let z : ◌≡◌ {A = ℕ} 0 1 = cc in absurd (omega arith)
+      none g e = cc

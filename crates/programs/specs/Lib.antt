@@ -1,3 +1,4 @@
+pub mod Refusal
 pub mod Replay
 pub mod ReplayLaw
 pub mod Done

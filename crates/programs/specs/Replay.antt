@@ -1,6 +1,5 @@
 -- What the program `replay` prints, for the bytes read. `ReplayLaw` says in other words what this amounts to.
 --
---   graph_of b            the meaning of a table of bits
 --   meant r               an answer with a table of bits, by its meaning
 --   left p                the graph that a replay leaves, or its refusal
 --   replay_told text l    the text read as a list, into the records l, and played back into a new table of bits
@@ -9,7 +8,7 @@
 --   looked_at text len    of a text into which `len` bytes were read, what is looked at
 --   replay_prints text len l   what is printed
 use Rattle.std.specs.Prelude.{ℕ, min, cond, List, [], length, take, Ok, Err, Result, nat_lt}
-use Rattle.bits.specs.Rows.{rows_graph}
+use Rattle.bits.specs.Table.{graph_of}
 use Rattle.bits.specs.declared.table.BitTable.{BitTable}
 use Rattle.construction.specs.Replay.{Played, replayed}
 use Rattle.refusals.specs.declared.fault.ReplayFault.{ReplayFault}
@@ -25,9 +24,6 @@ use Rattle.theory.specs.declared.step.Step.{Step}
 use Rattle.outcomes.specs.Fault.{fault_number, fault_layer, fault_place}
 use Rattle.outcomes.specs.declared.fault.ProgramFault.{ProgramFault}
 use Rattle.outcomes.specs.declared.fault.ProgramFault.TheVariants.{Text, Replay}
-
-abbrev pub graph_of : BitTable → Graph
-graph_of b = rows_graph b.count b.rows
 
 abbrev pub meant : {F : Type 0} → Result BitTable F → Result Graph F
 meant (Ok b) = Ok (graph_of b)

@@ -1,18 +1,21 @@
 //! The program `replay`: a list text in, the graph's G and J lines out, or the line of a refusal.
-ghost use Rattle.std.specs.Prelude.{◌≡◌, ℕ, ◌+◌, ◌≤◌, length, IfErr, Ok, Err};
+ghost use Rattle.std.specs.Prelude.{◌≡◌, ℕ, ◌+◌, ◌≤◌, length, IfErr, Ok};
 ghost use Rattle.theory.specs.Graph.{no_joins, clamped};
+ghost use Rattle.bits.specs.Table.{graph_of};
 ghost use Rattle.construction.specs.Replay.{replayed};
 ghost use Rattle.writer.specs.Laid.{laid};
 ghost use Rattle.texts.specs.ListRead.{list_read};
-ghost use Rattle.outcomes.specs.Fault.{fault_place, replay_place};
-ghost use Rattle.programs.specs.Replay.{graph_of, meant, left, replay_told, shown};
+ghost use Rattle.refusals.specs.Fault.{replay_place};
+ghost use Rattle.outcomes.specs.Fault.{fault_place};
+ghost use Rattle.programs.specs.Replay.{meant, left, replay_told, shown};
 ghost use Rattle.programs.specs.Done.{Done, Paged};
 
+use super::refusal::lay_refusal;
+use super::workspace::{PAGE, TEXT};
 use bits::table::BitTable;
 use construction::replay::replay;
 use outcomes::fault::ProgramFault;
 use prints::graph_text::write_graph;
-use prints::refusal::write_refusal;
 use refusals::fault::ReplayFault;
 use texts::list::{check_end, read_list};
 use theory::step::{Step, Triangle};
@@ -36,21 +39,8 @@ fn build(text: &[u8], steps: &mut [Step]) -> Result<BitTable, ProgramFault>
 {
     let list = read_list(text, 0, steps)?;
     check_end(text, list.end)?;
-    let count = list.steps;
-    let graph = play(list.tables, list.triangle, &steps[0..count])?;
+    let graph = play(list.tables, list.triangle, &steps[..list.steps])?;
     Ok(graph)
-}
-
-/// The line of a refusal, laid over the text, or nothing where it has no room.
-fn lay_refusal(fault: ProgramFault, text: &mut [u8]) -> usize
-    requires { fault_place fault ≤ 99999 }
-    ensures count { result ≡ length (shown (length text.old) (Err fault)) }
-    ensures laid { text.new ≡ laid text.old 0 (shown (length text.old) (Err fault)) }
-{
-    match write_refusal(text, fault.number(), fault.layer(), fault.place() as u32) {
-        Ok(n) => n,
-        Err(_) => 0,
-    }
 }
 
 /// A graph's text, laid over the text, or the line of its refusal where it has no room.
@@ -66,20 +56,22 @@ fn lay_graph(graph: &BitTable, text: &mut [u8]) -> usize
 
 /// Takes the first `len` bytes of the text as what was read, and lays what is to be printed over the text's first bytes; the
 /// answer is how many these are.
+// stays: the text and a length apart, what is printed lies over the same memory, past what was read, too
 pub fn replay_text(text: &mut [u8], len: usize, steps: &mut [Step; 2013]) -> usize
     // the bytes printed, every byte of the text, and every step record, for whatever was read; in other words: a graph is
     // printed exactly where the text read is that of a legal build, and then the graph that it builds
     ensures { Done text.old len steps.old result text.new steps.new }
 {
-    let len = len.min(text.len()).min(36465);
-    match build(&text[0..len], steps) {
+    let len = len.min(text.len()).min(TEXT);
+    match build(&text[..len], steps) {
         Ok(graph) => lay_graph(&graph, text),
         Err(fault) => lay_refusal(fault, text),
     }
 }
 
 /// The same in a page, where what was read and what is printed fit into it; none, and nothing changed, where they may not.
-pub fn replay_page(page: &mut [u8; 4096], len: usize, steps: &mut [Step; 2013]) -> Option<usize>
+// stays: apart from `assemble_page`: a function over both would take the limit and the program, and is longer than the two
+pub fn replay_page(page: &mut [u8; PAGE], len: usize, steps: &mut [Step; 2013]) -> Option<usize>
     ensures { Paged page.old len steps.old result page.new steps.new }
 {
     if len > 4062 {

@@ -1,4 +1,4 @@
-//! What the three programs hold alike: the sizes of their texts, and the record of a mark.
+//! What the programs hold alike: the sizes of their texts, and the record of a mark.
 pub use theory::mark::Mark;
 
 /// What is read first. Most texts are no longer, and then the memory for the longest need not be cleared.

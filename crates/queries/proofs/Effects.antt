@@ -5,7 +5,7 @@
 --   counts_more     a row line more: its count is the last for its table
 --   good_join       what the store accepts
 --   good_row        what the catalogue accepts
-use Rattle.std.proofs.Common.{◌≡◌, ℕ, ◌+◌, ◌-◌, ◌<◌, ◌≤◌, Bool, true, false, cond, not, ◌||◌, eqb, ltb, leb, List, [], ◌∷◌, ◌++◌, length, get_or, drop, set, ℤ, Ok, sym, refl, ap, ◌∙◌, append_assoc, arith}
+use Rattle.std.proofs.Common.{◌≡◌, ℕ, ◌+◌, ◌-◌, ◌<◌, ◌≤◌, Bool, true, false, cond, not, ◌||◌, eqb, ltb, leb, List, [], ◌∷◌, ◌++◌, length, get_or, drop, set, ℤ, Option, Ok, sym, refl, ap, ◌∙◌, append_assoc, arith}
 use mathlib.Core.Path.{fun_ext}
 use Rattle.std.proofs.lemmas.List.{drop_more, length_push, set-append_right}
 use Rattle.std.proofs.lemmas.Bool.{eqb-false, ltb-true, leb-false}
@@ -15,7 +15,6 @@ use Rattle.theory.specs.declared.mark.Mark.{Mark}
 use Rattle.graph.specs.Store.{join_answer}
 use Rattle.graph.specs.declared.fault.StoreFault.TheVariants.{UnknownTable, SameTable, AlreadyJoined}
 use Rattle.catalogue.specs.Rows.{stored_count, out_of_range, row_answer, count_of, row_record}
-use Rattle.catalogue.specs.declared.catalogue.RowCount.{RowCount}
 use Rattle.catalogue.specs.declared.catalogue.RowRecord.{RowRecord}
 use Rattle.catalogue.specs.declared.fault.RowFault.TheVariants as row-faults
 use Rattle.catalogue.proofs.Counts.{set_count}
@@ -53,7 +52,7 @@ marks_more l l' ms k h is =
 
 -- ---- row counts
 
-last_more : (rs : List (ℕ × ℤ)) (r : ℕ × ℤ) (t : ℕ) (c : RowCount) → last_count (rs ++ r ∷ []) t c ≡ cond (eqb t r.0) (stored_count r.1) (last_count rs t c)
+last_more : (rs : List (ℕ × ℤ)) (r : ℕ × ℤ) (t : ℕ) (c : Option ℕ) → last_count (rs ++ r ∷ []) t c ≡ cond (eqb t r.0) (stored_count r.1) (last_count rs t c)
 last_more [] r t c = refl
 last_more (q ∷ rs) r t c = last_more rs r t (cond (eqb t q.0) (stored_count q.1) c)
 

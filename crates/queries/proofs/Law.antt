@@ -24,7 +24,8 @@ use Rattle.queries.specs.declared.query.Head.{Head}
 use Rattle.queries.proofs.Told.{told_of}
 use Rattle.queries.proofs.ToldLines.{HeadTold, head_told}
 use Rattle.queries.proofs.Ways.{Outcome, lines_law, Way, amiss_here, JoinsWay, JoinsOff, join_outcome, MarksWay, MarksOff, mark_outcome, RowsWay, RowsOff, rows_only, row_outcome}
-use Rattle.queries.proofs.Whole.{here_inside, begun_inside, begun_whole}
+use Rattle.texts.proofs.Near.{here_inside}
+use Rattle.queries.proofs.Whole.{begun_inside, begun_whole}
 
 inside_limits : (n m : ℕ) → outside_limits n m ≡ false → (1 ≤ n) × (n ≤ 64)
 inside_limits n m e = grind (arith, nat_tests)

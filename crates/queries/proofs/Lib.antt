@@ -4,5 +4,6 @@ pub mod ToldLines
 pub mod Effects
 pub mod Ways
 pub mod Whole
+pub mod Near
 pub mod Law
 pub mod Answered

@@ -12,6 +12,7 @@ use Rattle.lines.specs.declared.line.Layout.{Layout}
 use Rattle.lines.specs.declared.line.Layout.TheVariants as layouts
 use Rattle.lines.specs.declared.line.Fields.{Fields}
 use Rattle.lines.specs.declared.line.Fields.TheVariants.{Three, LastTwo, FirstTwo, Counted, Single}
+use Rattle.lines.specs.declared.line.BadByte.{BadByte}
 use Rattle.lines.specs.declared.line.Line.{Line}
 use Rattle.lines.proofs.Lines.{line_read}
 use Rattle.texts.specs.Fault.{next, in_form}
@@ -68,7 +69,7 @@ module _ (text : List ℕ) (p : ℕ) where
   -- by the line read
   by_read : {X : Type 0} (due : ℕ) (line : X → Line) (judge : ℕ → Fields → Result X TextFault)
       → ((c : ℕ) (f : Fields) → Here text p (record { letter = c; fields = f }) → ToldLine due line (judge c f))
-      → (r : Result Line ℕ) → LineRead text p r → ToldLine due line (next (in_form r) (λ l. judge l.letter l.fields))
+      → (r : Result Line BadByte) → LineRead text p r → ToldLine due line (next (in_form r) (λ l. judge l.letter l.fields))
   by_read due line judge so (Ok l) q = so l.letter l.fields (record { written = q.0; agrees = q.1 })
   by_read due line judge so (Err e) q = q
 
@@ -108,7 +109,7 @@ module _ (text : List ℕ) (at room : ℕ) where
   head_judged c (Counted t n) here = not_head c (Counted t n) (λ s. let z : ◌≡◌ {A = ℕ} 0 1 = cc in omega arith) here
   head_judged c (Single o) here = not_head c (Single o) (λ s. let z : ◌≡◌ {A = ℕ} 0 1 = cc in omega arith) here
 
-  by_line : (r : Result Line ℕ) → LineRead text at r → HeadTold (next (in_form r) (λ l. head_of at room l.letter l.fields))
+  by_line : (r : Result Line BadByte) → LineRead text at r → HeadTold (next (in_form r) (λ l. head_of at room l.letter l.fields))
   by_line (Ok l) q = head_judged l.letter l.fields (record { written = q.0; agrees = q.1 })
   by_line (Err e) q = q
 

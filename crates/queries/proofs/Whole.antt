@@ -10,15 +10,12 @@ use Rattle.theory.specs.declared.mark.Mark.{Mark}
 use Rattle.lines.specs.Form.{Agrees}
 use Rattle.lines.specs.Text.{line_text}
 use Rattle.lines.specs.declared.line.Line.{Line}
-use Rattle.lines.proofs.Bytes.{line_length, begins_within}
+use Rattle.lines.proofs.Bytes.{line_length}
 use Rattle.lines.proofs.Pieces.{agrees_both}
-use Rattle.texts.specs.ListLaw.{Here}
+use Rattle.texts.proofs.Near.{here_inside}
 use Rattle.texts.proofs.Stands.{agrees_part}
 use Rattle.texts.proofs.Writing.{joined_length}
 use Rattle.queries.specs.QueryLaw.{head_line, join_line, mark_line, row_line, join_text, mark_text, row_text, query_text, Begun, headed, joined_by, marked_by, counted_by, place_after}
-
-pub here_inside : (text : List ℕ) (p : ℕ) (l : Line) → Here text p l → p + 17 ≤ length text
-here_inside text p l here = begins_within text p 17 (omega arith) (l, here.written, here.agrees) (omega arith)
 
 -- one line more behind lines
 agrees_more : {X : Type 0} (text : List ℕ) (line : X → Line) (xs : List X) (x : X) (p q : ℕ) → q ≡ p + 17 * length xs

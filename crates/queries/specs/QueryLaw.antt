@@ -16,13 +16,12 @@
 --   QueryStands …                   what an accepted query is
 --   HeadAmiss, Amiss                what is amiss with the G line; with the line after those that were accepted
 --   QueryAccepted, QueryRefused     the two laws, for whatever is told
-use Rattle.std.specs.Prelude.{◌≡◌, ℕ, ◌+◌, ◌-◌, ◌*◌, ◌<◌, ◌≤◌, Bool, true, false, cond, ◌||◌, ◌⊎◌, List, [], ◌∷◌, ◌++◌, length, drop, ℤ, Ok, Err, Result, ◌==◌, ◌≢◌}
+use Rattle.std.specs.Prelude.{◌≡◌, ℕ, ◌+◌, ◌-◌, ◌*◌, ◌<◌, ◌≤◌, Bool, true, false, cond, ◌||◌, ◌⊎◌, List, [], ◌∷◌, ◌++◌, length, drop, ℤ, Option, Ok, Err, Result, ◌==◌, ◌≢◌}
 use Rattle.std.specs.List.{flat_map}
 use Rattle.theory.specs.Graph.{Graph, same_pair, no_joins}
 use Rattle.theory.specs.declared.mark.Mark.{Mark}
 use Rattle.graph.specs.Store.{join_answer}
 use Rattle.catalogue.specs.Rows.{stored_count, out_of_range, row_answer, count_of}
-use Rattle.catalogue.specs.declared.catalogue.RowCount.{RowCount}
 use Rattle.catalogue.specs.declared.catalogue.RowRecord.{RowRecord}
 use Rattle.lines.specs.Form.{Longest}
 use Rattle.lines.specs.Text.{line_text}
@@ -74,7 +73,7 @@ has_join (p ∷ ps) a b = same_pair p.0 p.1 a b || has_join ps a b
 abbrev pub lines_graph : ℕ → List (ℕ × ℕ) → Graph
 lines_graph n js = record { tables = n; adj = has_join js }
 
-abbrev pub last_count : List (ℕ × ℤ) → ℕ → RowCount → RowCount
+abbrev pub last_count : List (ℕ × ℤ) → ℕ → Option ℕ → Option ℕ
 last_count [] t c = c
 last_count (r ∷ rs) t c = last_count rs t (cond (t == r.0) (stored_count r.1) c)
 

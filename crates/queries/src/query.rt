@@ -1,12 +1,14 @@
 //! The text of a query: a G line (tables, joins), a J line for each join, no M line or one for each table but one, and up
 //! to 64 R lines, to the text's end.
 //!
-//! The inner functions say in `answer` what they answer, in `left` what they leave, in `within` that what was read lies
-//! in the text, and in `near` that no place named is far beyond it.
+//! The inner functions say in `answer` what they answer, in `effect` what they answer and leave, and in `onward` where the
+//! reader stands afterwards.
+//! stays: reader, graph and catalogue are lent apart, as the caller of `read_query` lends them. Who needs to know that there are
+//! at most 64 tables takes the graph, of which that always holds.
 ghost use Rattle.std.specs.Prelude.{◌≡◌, ℕ, ◌+◌, ◌-◌, ◌*◌, ◌<◌, ◌≤◌, length, IfOk, IfErr, OnOk};
-ghost use Rattle.bits.specs.Rows.{rows_graph};
+ghost use Rattle.bits.specs.Table.{graph_of};
 ghost use Rattle.catalogue.specs.Rows.{row_answer, records_after};
-ghost use Rattle.texts.specs.Fault.{text_value};
+ghost use Rattle.texts.specs.Reader.{past, past_lines};
 ghost use Rattle.rejections.specs.Fault.{query_place};
 ghost use Rattle.queries.specs.QueryLaw.{QueryAccepted, QueryRefused};
 ghost use Rattle.queries.specs.QueryRead.{head_at, pair_at, row_line_at, join_at, row_at, joins_read, marks_read, rows_read, due_marks, due_rows, rows_ended, query_read};
@@ -14,11 +16,13 @@ ghost use Rattle.queries.specs.QueryRead.{head_at, pair_at, row_line_at, join_at
 use bits::table::BitTable;
 use catalogue::catalogue::Catalogue;
 use catalogue::fault::RowFault;
+use graph::fault::at_place;
 use graph::graph::{EditableGraph, ReadableGraph};
 use lines::line::Fields;
-use rejections::fault::{QueryFault, at_join, at_row};
+use rejections::fault::QueryFault;
+use std::cmp::min;
 use texts::fault::TextFault;
-use texts::list::{check_end, form_line};
+use texts::reader::Reader;
 use theory::mark::Mark;
 
 /// What a G line says: the number of tables, and the number of J lines.
@@ -38,12 +42,14 @@ pub struct QueryHead {
 }
 
 /// The G line, judged in the order 15, 16, 17, 9.
-fn head_line(text: &[u8], at: usize, room: usize) -> Result<Head, TextFault>
-    ensures answer { result ≡ head_at text.now at room }
-    ensures within { IfOk result (λ h. (at + 17 ≤ length text.now) × (1 ≤ h.tables) × (h.tables ≤ 64) × (h.joins ≤ 2016) × (h.tables ≤ room + 1)) }
-    ensures near { IfErr result (λ f. text_value f ≤ at + 63) }
+// stays: that the reader has passed a line is said of each kind of line, since only its own clause says it to a caller
+fn head_line(reader: &mut Reader, room: usize) -> Result<Head, TextFault>
+    ensures answer { result ≡ head_at reader.old.text.now reader.old.at room }
+    ensures within { IfOk result (λ h. (1 ≤ h.tables) × (h.tables ≤ 64) × (h.tables ≤ room + 1)) }
+    ensures onward { OnOk result (reader.new ≡ past reader.old) }
 {
-    let line = form_line(text, at)?;
+    let at = reader.at;
+    let line = reader.line()?;
     match (line.letter, line.fields) {
         ('G', Fields::FirstTwo(tables, joins)) => {
             if tables < 1 || tables > 64 || joins > 2016 {
@@ -63,31 +69,25 @@ fn head_line(text: &[u8], at: usize, room: usize) -> Result<Head, TextFault>
 }
 
 /// The two tables of a J line or of an M line, whichever is due.
-fn pair_line(text: &[u8], at: usize, due: char) -> Result<(u32, u32), TextFault>
-    ensures answer { result ≡ pair_at text.now at due }
-    ensures within { OnOk result (at + 17 ≤ length text.now) }
-    ensures near { IfErr result (λ f. text_value f ≤ at + 16) }
+fn pair_line(reader: &mut Reader, due: char) -> Result<(u32, u32), TextFault>
+    ensures answer { result ≡ pair_at reader.old.text.now reader.old.at due }
+    ensures onward { OnOk result (reader.new ≡ past reader.old) }
 {
-    let line = form_line(text, at)?;
+    let at = reader.at;
+    let line = reader.line()?;
     match line.fields {
-        Fields::LastTwo(v, w) => {
-            if line.letter == due {
-                Ok((v, w))
-            } else {
-                Err(TextFault::Misplaced { place: at })
-            }
-        }
+        Fields::LastTwo(v, w) if line.letter == due => Ok((v, w)),
         _ => Err(TextFault::Misplaced { place: at }),
     }
 }
 
 /// The table and the stored number of an R line.
-fn row_line(text: &[u8], at: usize) -> Result<(u32, i64), TextFault>
-    ensures answer { result ≡ row_line_at text.now at }
-    ensures within { OnOk result (at + 17 ≤ length text.now) }
-    ensures near { IfErr result (λ f. text_value f ≤ at + 16) }
+fn row_line(reader: &mut Reader) -> Result<(u32, i64), TextFault>
+    ensures answer { result ≡ row_line_at reader.old.text.now reader.old.at }
+    ensures onward { OnOk result (reader.new ≡ past reader.old) }
 {
-    let line = form_line(text, at)?;
+    let at = reader.at;
+    let line = reader.line()?;
     match (line.letter, line.fields) {
         ('R', Fields::Counted(table, stored)) => Ok((table, stored)),
         _ => Err(TextFault::Misplaced { place: at }),
@@ -95,133 +95,144 @@ fn row_line(text: &[u8], at: usize) -> Result<(u32, i64), TextFault>
 }
 
 /// A J line: its pair is joined.
-fn read_join<G: EditableGraph>(text: &[u8], at: usize, graph: &mut G) -> Result<(), QueryFault>
-    ensures answer { result ≡ (join_at (G.limit graph.old) text.now at (G.ReadableGraph.meaning graph.old)).told }
-    ensures left { G.ReadableGraph.meaning graph.new ≡ (join_at (G.limit graph.old) text.now at (G.ReadableGraph.meaning graph.old)).left }
+fn read_join<G: EditableGraph>(reader: &mut Reader, graph: &mut G) -> Result<(), QueryFault>
+    ensures effect { join_at (G.limit graph.old) reader.old.text.now reader.old.at (G.ReadableGraph.meaning graph.old)
+        ≡ record { told = result; left = G.ReadableGraph.meaning graph.new } }
     ensures same { G.limit graph.new ≡ G.limit graph.old }
-    ensures within { OnOk result (at + 17 ≤ length text.now) }
-    ensures near { IfErr result (λ f. query_place f ≤ at + 16) }
+    ensures onward { OnOk result (reader.new ≡ past reader.old) }
 {
-    let (v, w) = pair_line(text, at, 'J')?;
-    at_join(at, graph.join(v, w))?;
+    let at = reader.at;
+    let (v, w) = pair_line(reader, 'J')?;
+    at_place(at, graph.join(v, w))?;
     Ok(())
 }
 
-/// The J lines from `at` on.
+/// As many J lines as are said.
 fn read_joins<G: EditableGraph>(
-    text: &[u8],
-    at: usize,
+    reader: &mut Reader,
     count: usize,
     graph: &mut G,
 ) -> Result<(), QueryFault>
-    requires { (at ≤ length text.now) × (count ≤ 2016) }
-    ensures answer { result ≡ (joins_read (G.limit graph.old) text.now at count (G.ReadableGraph.meaning graph.old)).told }
-    ensures left { G.ReadableGraph.meaning graph.new ≡ (joins_read (G.limit graph.old) text.now at count (G.ReadableGraph.meaning graph.old)).left }
-    ensures within { OnOk result (at + 17 * count ≤ length text.now) }
-    ensures near { IfErr result (λ f. query_place f ≤ length text.now + 16) }
+    ensures effect { joins_read (G.limit graph.old) reader.old.text.now reader.old.at count (G.ReadableGraph.meaning graph.old)
+        ≡ record { told = result; left = G.ReadableGraph.meaning graph.new } }
+    ensures onward { OnOk result (reader.new ≡ past_lines count reader.old) }
 {
-    for i in 0..count {
-        read_join(text, at + 17 * i, graph)?;
+    for _ in 0..count {
+        read_join(reader, graph)?;
     }
     Ok(())
 }
 
-/// How many M lines are owed at `at`: one for each table but one, where the first is begun.
-fn marks_due(text: &[u8], at: usize, tables: u32) -> usize
-    requires { 1 ≤ tables }
-    ensures { result ≡ due_marks tables text.now at }
+/// How many M lines are owed: one for each table but one, where the first is begun.
+fn marks_due(reader: &Reader, graph: &BitTable) -> usize
+    ensures { result ≡ due_marks graph.now.count reader.now.text.now reader.now.at }
 {
-    if at >= text.len() {
-        return 0;
-    }
-    if text[at] as char == 'M' {
-        tables as usize - 1
-    } else {
-        0
+    match reader.text.get(reader.at) {
+        Some(b'M') => graph.tables() as usize - 1,
+        _ => 0,
     }
 }
 
-/// The M lines from `at` on, laid into the first `count` records.
-fn read_marks(text: &[u8], at: usize, count: usize, marks: &mut [Mark]) -> Result<(), QueryFault>
-    requires { (at ≤ length text.now) × ((count ≤ length marks.old) × (count ≤ 63)) }
-    ensures answer { result ≡ (marks_read text.now at count marks.old).told }
-    ensures left { marks.new ≡ (marks_read text.now at count marks.old).left }
-    ensures within { OnOk result (at + 17 * count ≤ length text.now) }
-    ensures near { IfErr result (λ f. query_place f ≤ length text.now + 16) }
+/// As many M lines as there are records, laid into them.
+fn read_marks(reader: &mut Reader, marks: &mut [Mark]) -> Result<(), QueryFault>
+    ensures effect { marks_read reader.old.text.now reader.old.at (length marks.old) marks.old
+        ≡ record { told = result; left = marks.new } }
+    ensures onward { OnOk result (reader.new ≡ past_lines (length marks.old) reader.old) }
 {
-    for i in 0..count {
-        let (v, w) = pair_line(text, at + 17 * i, 'M')?;
-        marks[i] = Mark { v, w };
+    for mark in marks.iter_mut() {
+        let (v, w) = pair_line(reader, 'M')?;
+        *mark = Mark { v, w };
     }
     Ok(())
 }
 
 /// Sets the record of one of the query's tables.
-fn set_row(rows: &mut Catalogue, tables: u32, table: u32, stored: i64) -> Result<(), RowFault>
-    requires { tables ≤ 64 }
-    ensures answer { result ≡ row_answer tables table stored }
+fn set_row(rows: &mut Catalogue, graph: &BitTable, table: u32, stored: i64) -> Result<(), RowFault>
+    ensures answer { result ≡ row_answer graph.now.count table stored }
     ensures left { rows.new.records ≡ records_after result rows.old.records table stored }
 {
-    if table >= tables {
+    if table >= graph.tables() {
         return Err(RowFault::UnknownTable { table });
     }
     rows.set(table, stored)
 }
 
 /// An R line: its table's record is set.
-fn read_row(text: &[u8], at: usize, tables: u32, rows: &mut Catalogue) -> Result<(), QueryFault>
-    requires { tables ≤ 64 }
-    ensures answer { result ≡ (row_at tables text.now at rows.old.records).told }
-    ensures left { rows.new.records ≡ (row_at tables text.now at rows.old.records).left }
-    ensures within { OnOk result (at + 17 ≤ length text.now) }
-    ensures near { IfErr result (λ f. query_place f ≤ at + 16) }
+fn read_row(reader: &mut Reader, graph: &BitTable, rows: &mut Catalogue) -> Result<(), QueryFault>
+    ensures effect { row_at graph.now.count reader.old.text.now reader.old.at rows.old.records
+        ≡ record { told = result; left = rows.new.records } }
+    ensures onward { OnOk result (reader.new ≡ past reader.old) }
 {
-    let (table, stored) = row_line(text, at)?;
-    at_row(at, set_row(rows, tables, table, stored))?;
+    let at = reader.at;
+    let (table, stored) = row_line(reader)?;
+    at_place(at, set_row(rows, graph, table, stored))?;
     Ok(())
 }
 
-/// How many R lines the text has room for from `at` on, one begun included, but at most 64.
-fn rows_due(text: &[u8], at: usize) -> usize
-    requires { at ≤ length text.now }
-    ensures answer { result ≡ due_rows text.now at }
-    ensures few { result ≤ 64 }
+/// How many R lines the text has room for, one begun included, but at most 64.
+fn rows_due(reader: &Reader) -> usize
+    ensures { result ≡ due_rows reader.now.text.now reader.now.at }
 {
-    let rest = text.len() - at;
-    if rest > 1088 { 64 } else { (rest + 16) / 17 }
+    let rest = reader.text.len().saturating_sub(reader.at);
+    min(rest.div_ceil(17), 64)
 }
 
-/// The first `count` R lines from `at` on.
+/// The first `count` R lines.
 fn read_row_lines(
-    text: &[u8],
-    at: usize,
+    reader: &mut Reader,
     count: usize,
-    tables: u32,
+    graph: &BitTable,
     rows: &mut Catalogue,
 ) -> Result<(), QueryFault>
-    requires { (at ≤ length text.now) × ((count ≤ 64) × (tables ≤ 64)) }
-    ensures answer { result ≡ (rows_read tables text.now at count rows.old.records).told }
-    ensures left { rows.new.records ≡ (rows_read tables text.now at count rows.old.records).left }
-    ensures within { OnOk result (at + 17 * count ≤ length text.now) }
-    ensures near { IfErr result (λ f. query_place f ≤ length text.now + 16) }
+    ensures effect { rows_read graph.now.count reader.old.text.now reader.old.at count rows.old.records
+        ≡ record { told = result; left = rows.new.records } }
+    ensures onward { OnOk result (reader.new ≡ past_lines count reader.old) }
 {
-    for i in 0..count {
-        read_row(text, at + 17 * i, tables, rows)?;
+    for _ in 0..count {
+        read_row(reader, graph, rows)?;
     }
     Ok(())
 }
 
-/// The R lines from `at` on, after which nothing may follow: where they end.
-fn read_rows(text: &[u8], at: usize, tables: u32, rows: &mut Catalogue) -> Result<usize, QueryFault>
-    requires { (at ≤ length text.now) × (tables ≤ 64) }
-    ensures answer { result ≡ rows_ended tables text.now at rows.old.records }
-    ensures left { rows.new.records ≡ (rows_read tables text.now at (due_rows text.now at) rows.old.records).left }
-    ensures near { IfErr result (λ f. query_place f ≤ length text.now + 16) }
+/// The R lines, after which nothing may follow: where they end.
+fn read_rows(
+    reader: &mut Reader,
+    graph: &BitTable,
+    rows: &mut Catalogue,
+) -> Result<usize, QueryFault>
+    ensures answer { result ≡ rows_ended graph.now.count reader.old.text.now reader.old.at rows.old.records }
+    ensures left { rows.new.records
+        ≡ (rows_read graph.now.count reader.old.text.now reader.old.at (due_rows reader.old.text.now reader.old.at) rows.old.records).left }
 {
-    let count = rows_due(text, at);
-    read_row_lines(text, at, count, tables, rows)?;
-    check_end(text, at + 17 * count)?;
-    Ok(at + 17 * count)
+    let count = rows_due(reader);
+    read_row_lines(reader, count, graph, rows)?;
+    reader.end()?;
+    Ok(reader.at)
+}
+
+/// A whole query.
+fn read_lines(
+    reader: &mut Reader,
+    graph: &mut BitTable,
+    marks: &mut [Mark],
+    rows: &mut Catalogue,
+) -> Result<QueryHead, QueryFault>
+    ensures { query_read reader.old.text.now reader.old.at marks.old rows.old.records
+        ≡ record { told = result; graph = graph_of graph.new; marks = marks.new; rows = rows.new.records } }
+{
+    *graph = BitTable::new(1);
+    let head = head_line(reader, marks.len())?;
+    *graph = BitTable::new(head.tables);
+    read_joins(reader, head.joins, graph)?;
+    let count = marks_due(reader, graph);
+    read_marks(reader, &mut marks[..count])?;
+    let end = read_rows(reader, graph, rows)?;
+    Ok(QueryHead {
+        tables: head.tables,
+        joins: head.joins,
+        marks: count,
+        end,
+    })
 }
 
 /// Reads the query whose text begins at `at` and goes on to the text's end: into a new graph, the first mark records, and
@@ -235,29 +246,17 @@ pub fn read_query(
 ) -> Result<QueryHead, QueryFault>
     // line by line as the definition reads; earlier lines keep their effect
     ensures answer { result ≡ (query_read text.now at marks.old rows.old.records).told }
-    ensures meant { rows_graph graph.new.count graph.new.rows ≡ (query_read text.now at marks.old rows.old.records).graph }
+    ensures meant { graph_of graph.new ≡ (query_read text.now at marks.old rows.old.records).graph }
     ensures marked { marks.new ≡ (query_read text.now at marks.old rows.old.records).marks }
     ensures counted { rows.new.records ≡ (query_read text.now at marks.old rows.old.records).rows }
     // an accepted text is exactly that of its lines: a G line, its J lines, no M line or one for each table but one, up to 64
     // R lines; the graph has the joins of the J lines, the first records the marks, each table the count of its last R line
-    ensures accepted { QueryAccepted text.now at marks.old rows.old.records result (rows_graph graph.new.count graph.new.rows) marks.new rows.new.records }
+    ensures accepted { QueryAccepted text.now at marks.old rows.old.records result (graph_of graph.new) marks.new rows.new.records }
     // a refused text has the fault told at its first line that is amiss, and the lines before it keep their effect
-    ensures refused { QueryRefused text.now at marks.old rows.old.records result (rows_graph graph.new.count graph.new.rows) marks.new rows.new.records }
+    ensures refused { QueryRefused text.now at marks.old rows.old.records result (graph_of graph.new) marks.new rows.new.records }
     // no place or amount named is far beyond the text
     ensures near { IfErr result (λ f. query_place f ≤ at + length text.now + 63) }
 {
-    *graph = BitTable::new(1);
-    let head = head_line(text, at, marks.len())?;
-    *graph = BitTable::new(head.tables);
-    read_joins(text, at + 17, head.joins, graph)?;
-    let after = at + 17 + 17 * head.joins;
-    let count = marks_due(text, after, head.tables);
-    read_marks(text, after, count, marks)?;
-    let end = read_rows(text, after + 17 * count, head.tables, rows)?;
-    Ok(QueryHead {
-        tables: head.tables,
-        joins: head.joins,
-        marks: count,
-        end,
-    })
+    let mut reader = Reader { text, at };
+    read_lines(&mut reader, graph, marks, rows)
 }

@@ -1,10 +1,9 @@
 //! Queries read, whole and in part, and the catalogue.
 use bits::table::BitTable;
-use catalogue::catalogue::{Catalogue, RowCount};
+use catalogue::catalogue::Catalogue;
 use catalogue::fault::RowFault;
 use graph::graph::ReadableGraph;
 use queries::query::{QueryHead, read_query};
-use rejections::fault::QueryFault;
 use theory::mark::Mark;
 
 /// Three tables in a row, with both marks, and two row counts for table 1.
@@ -31,13 +30,13 @@ fn query_read(rt: HostRuntime) {
         })
     );
     assert_eq!(rt; graph.tables(), 3);
-    assert_eq!(rt; graph.joined(0, 1), true);
-    assert_eq!(rt; graph.joined(1, 2), true);
-    assert_eq!(rt; graph.joined(0, 2), false);
+    assert!(rt; graph.joined(0, 1));
+    assert!(rt; graph.joined(1, 2));
+    assert!(rt; !graph.joined(0, 2));
     assert_eq!(rt; marks, [Mark { v: 1, w: 0 }, Mark { v: 1, w: 2 }, BLANK]);
-    assert_eq!(rt; rows.get(0), RowCount::Known(6));
-    assert_eq!(rt; rows.get(1), RowCount::Known(7));
-    assert_eq!(rt; rows.get(2), RowCount::Unknown);
+    assert_eq!(rt; rows.get(0), Some(6));
+    assert_eq!(rt; rows.get(1), Some(7));
+    assert_eq!(rt; rows.get(2), None);
 }
 
 /// A query needs neither marks nor row counts.
@@ -58,13 +57,18 @@ fn query_without_marks(rt: HostRuntime) {
     assert_eq!(rt; marks, [BLANK; 2]);
 }
 
-/// What a refused text tells: the number, the layer and the place.
-fn told(text: &[u8], graph: &mut BitTable, rows: &mut Catalogue) -> [usize; 3] {
+/// What a text tells: its head, or the number, the layer and the place of its refusal.
+fn told(
+    text: &[u8],
+    graph: &mut BitTable,
+    rows: &mut Catalogue,
+) -> Result<QueryHead, (u32, u32, usize)> {
     let mut marks = [BLANK; 2];
-    match read_query(text, 0, graph, &mut marks, rows) {
-        Ok(_) => [0, 0, 0],
-        Err(f) => [f.number() as usize, f.layer() as usize, f.place()],
-    }
+    read_query(text, 0, graph, &mut marks, rows).map_err(|fault| (
+        fault.number(),
+        u32::from(fault.layer()),
+        fault.place(),
+    ))
 }
 
 /// The G line.
@@ -72,11 +76,11 @@ fn told(text: &[u8], graph: &mut BitTable, rows: &mut Catalogue) -> [usize; 3] {
 fn head_refused(rt: HostRuntime) {
     let mut graph = BitTable::new(9);
     let mut rows = Catalogue::new();
-    assert_eq!(rt; told(b"", &mut graph, &mut rows), [15, 1, 0]);
+    assert_eq!(rt; told(b"", &mut graph, &mut rows), Err((15, 1, 0)));
     assert_eq!(rt; graph.tables(), 1);
     assert_eq!(rt;
         told(b"H    3    3    0\n", &mut graph, &mut rows),
-        [16, 1, 0]
+        Err((16, 1, 0))
     );
 }
 
@@ -87,19 +91,19 @@ fn head_out_of_limits(rt: HostRuntime) {
     let mut rows = Catalogue::new();
     assert_eq!(rt;
         told(b"G    0    0     \n", &mut graph, &mut rows),
-        [17, 1, 0]
+        Err((17, 1, 0))
     );
     assert_eq!(rt;
         told(b"G   65    0     \n", &mut graph, &mut rows),
-        [17, 1, 0]
+        Err((17, 1, 0))
     );
     assert_eq!(rt;
         told(b"G   64 2017     \n", &mut graph, &mut rows),
-        [17, 1, 0]
+        Err((17, 1, 0))
     );
     assert_eq!(rt;
         told(b"G    4 2016     \n", &mut graph, &mut rows),
-        [9, 1, 3]
+        Err((9, 1, 3))
     );
 }
 
@@ -108,14 +112,14 @@ fn head_out_of_limits(rt: HostRuntime) {
 fn join_owed(rt: HostRuntime) {
     let mut graph = BitTable::new(9);
     let mut rows = Catalogue::new();
-    assert_eq!(rt; told(&ROW[0..34], &mut graph, &mut rows), [15, 1, 34]);
+    assert_eq!(rt; told(&ROW[0..34], &mut graph, &mut rows), Err((15, 1, 34)));
     assert_eq!(rt;
         told(
             b"G    2    1     \nM         0    1\n",
             &mut graph,
             &mut rows,
         ),
-        [16, 1, 17]
+        Err((16, 1, 17))
     );
 }
 
@@ -124,14 +128,14 @@ fn join_owed(rt: HostRuntime) {
 fn mark_owed(rt: HostRuntime) {
     let mut graph = BitTable::new(9);
     let mut rows = Catalogue::new();
-    assert_eq!(rt; told(&ROW[0..68], &mut graph, &mut rows), [15, 1, 68]);
+    assert_eq!(rt; told(&ROW[0..68], &mut graph, &mut rows), Err((15, 1, 68)));
     assert_eq!(rt;
         told(
             b"G    3    0     \nM         0    1\nR    0         1\n",
             &mut graph,
             &mut rows,
         ),
-        [16, 1, 34]
+        Err((16, 1, 34))
     );
 }
 
@@ -146,7 +150,7 @@ fn line_misplaced(rt: HostRuntime) {
             &mut graph,
             &mut rows,
         ),
-        [16, 1, 17]
+        Err((16, 1, 17))
     );
     assert_eq!(rt;
         told(
@@ -154,11 +158,11 @@ fn line_misplaced(rt: HostRuntime) {
             &mut graph,
             &mut rows,
         ),
-        [16, 1, 34]
+        Err((16, 1, 34))
     );
     assert_eq!(rt;
         told(b"G    2    0     \nR", &mut graph, &mut rows),
-        [15, 1, 18]
+        Err((15, 1, 18))
     );
 }
 
@@ -173,18 +177,18 @@ fn join_refused(rt: HostRuntime) {
             &mut graph,
             &mut rows,
         ),
-        [3, 2, 34]
+        Err((3, 2, 34))
     );
-    assert_eq!(rt; graph.joined(0, 1), true);
+    assert!(rt; graph.joined(0, 1));
     assert_eq!(rt;
         told(
             b"G    3    1     \nJ         0    3\n",
             &mut graph,
             &mut rows,
         ),
-        [1, 2, 17]
+        Err((1, 2, 17))
     );
-    assert_eq!(rt; graph.joined(0, 1), false);
+    assert!(rt; !graph.joined(0, 1));
 }
 
 /// A row count that is refused: the ones before it stay. Ten characters hold more than 32 bits.
@@ -198,16 +202,16 @@ fn row_refused(rt: HostRuntime) {
             &mut graph,
             &mut rows,
         ),
-        [1, 4, 34]
+        Err((1, 4, 34))
     );
-    assert_eq!(rt; rows.get(1), RowCount::Known(2147483647));
+    assert_eq!(rt; rows.get(1), Some(2147483647));
     assert_eq!(rt;
         told(
             b"G    2    0     \nR    14294967297\n",
             &mut graph,
             &mut rows,
         ),
-        [21, 4, 17]
+        Err((21, 4, 17))
     );
     assert_eq!(rt;
         told(
@@ -215,20 +219,20 @@ fn row_refused(rt: HostRuntime) {
             &mut graph,
             &mut rows,
         ),
-        [21, 4, 17]
+        Err((21, 4, 17))
     );
-    assert_eq!(rt; rows.get(1), RowCount::Known(2147483647));
+    assert_eq!(rt; rows.get(1), Some(2147483647));
 }
 
 /// The catalogue by itself.
 #[test]
 fn rows_set(rt: HostRuntime) {
     let mut rows = Catalogue::new();
-    assert_eq!(rt; rows.get(0), RowCount::Unknown);
+    assert_eq!(rt; rows.get(0), None);
     assert_eq!(rt; rows.set(63, 0), Ok(()));
-    assert_eq!(rt; rows.get(63), RowCount::Known(0));
-    assert_eq!(rt; rows.get(62), RowCount::Unknown);
-    assert_eq!(rt; rows.get(64), RowCount::Unknown);
+    assert_eq!(rt; rows.get(63), Some(0));
+    assert_eq!(rt; rows.get(62), None);
+    assert_eq!(rt; rows.get(64), None);
     assert_eq!(rt; rows.set(64, -2), Err(RowFault::UnknownTable { table: 64 }));
     assert_eq!(rt;
         rows.set(63, 2147483648),
@@ -237,7 +241,7 @@ fn rows_set(rt: HostRuntime) {
             stored: 2147483648,
         })
     );
-    assert_eq!(rt; rows.get(63), RowCount::Known(0));
+    assert_eq!(rt; rows.get(63), Some(0));
     assert_eq!(rt; rows.set(63, -1), Ok(()));
-    assert_eq!(rt; rows.get(63), RowCount::Unknown);
+    assert_eq!(rt; rows.get(63), None);
 }

@@ -1,4 +1,4 @@
--- The number of each of a build request's refusals, and the table or the amount that it names.
+-- The number of each of a build request's refusals, the table or the amount that it names, and the layer of all of them.
 use Rattle.std.specs.Prelude.{ℕ}
 use Rattle.refusals.specs.declared.build.BuildFault.{BuildFault}
 use Rattle.refusals.specs.declared.build.BuildFault.TheVariants.{TooSmall, Unreached, Articulation, TooFewRecords}
@@ -15,3 +15,6 @@ build_value TooSmall = 0
 build_value (Unreached t) = t
 build_value (Articulation t) = t
 build_value (TooFewRecords k) = k
+
+abbrev pub build_layer : BuildFault → ℕ
+build_layer f = 3

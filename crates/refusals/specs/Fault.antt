@@ -1,13 +1,12 @@
--- The number of each of a replay's refusals, its step, and the values that it names.
+-- The number of each of a replay's refusals, its step, the values that it names, its layer and its place.
 --
 --   replay_number f   its number: a store's refusal keeps its own
 --   replay_step f     the step that it names: 0 is the triangle
 --   replay_values f   the table that it names, or what the store's refusal names
---   marked k r        a store's answer at step k
-use Rattle.std.specs.Prelude.{ℕ, List, [], ◌∷◌, Ok, Err, Result}
+--   replay_layer f    its layer: 2 for the store's refusals, else 3
+--   replay_place f    its step, or the table that no step has put into use
+use Rattle.std.specs.Prelude.{ℕ, List, [], ◌∷◌}
 use Rattle.graph.specs.Fault.{store_number, store_values}
-use Rattle.graph.specs.declared.fault.StoreFault.{StoreFault}
-use Rattle.refusals.specs.declared.fault.AtStep.{AtStep}
 use Rattle.refusals.specs.declared.fault.ReplayFault.{ReplayFault}
 use Rattle.refusals.specs.declared.fault.ReplayFault.TheVariants.{Store, HasJoins, NotTriangle, InUse, NotInUse, Unused}
 
@@ -36,6 +35,18 @@ replay_values (InUse k t) = t ∷ 0 ∷ []
 replay_values (NotInUse k t) = t ∷ 0 ∷ []
 replay_values (Unused t) = t ∷ 0 ∷ []
 
-abbrev pub marked : ℕ → Result Unit StoreFault → Result Unit AtStep
-marked k (Ok v) = Ok v
-marked k (Err f) = Err (record { step = k; fault = f })
+abbrev pub replay_layer : ReplayFault → ℕ
+replay_layer (Store k f) = 2
+replay_layer HasJoins = 3
+replay_layer NotTriangle = 3
+replay_layer (InUse k t) = 3
+replay_layer (NotInUse k t) = 3
+replay_layer (Unused t) = 3
+
+abbrev pub replay_place : ReplayFault → ℕ
+replay_place (Store k f) = k
+replay_place HasJoins = 0
+replay_place NotTriangle = 0
+replay_place (InUse k t) = k
+replay_place (NotInUse k t) = k
+replay_place (Unused t) = t

@@ -1,6 +1,10 @@
 //! Why a build request is refused.
+//! stays: the numbers are those of the X lines; a definition gives each case its own, so they stand written out.
 ghost use Rattle.std.specs.Prelude.{◌≡◌};
-ghost use Rattle.refusals.specs.Build.{build_number, build_value};
+ghost use Rattle.graph.specs.Layer.{layer_number};
+ghost use Rattle.refusals.specs.Build.{build_number, build_value, build_layer};
+
+use graph::layer::Layer;
 
 /// A build request's refusal.
 #[derive(Clone, Copy, PartialEq, Eq, Debug)]
@@ -22,9 +26,9 @@ impl BuildFault {
     {
         match self {
             BuildFault::TooSmall => 6,
-            BuildFault::Unreached { table: _ } => 7,
-            BuildFault::Articulation { table: _ } => 8,
-            BuildFault::TooFewRecords { needed: _ } => 9,
+            BuildFault::Unreached { .. } => 7,
+            BuildFault::Articulation { .. } => 8,
+            BuildFault::TooFewRecords { .. } => 9,
         }
     }
 
@@ -34,9 +38,15 @@ impl BuildFault {
     {
         match self {
             BuildFault::TooSmall => 0,
-            BuildFault::Unreached { table } => table as usize,
-            BuildFault::Articulation { table } => table as usize,
+            BuildFault::Unreached { table } | BuildFault::Articulation { table } => table as usize,
             BuildFault::TooFewRecords { needed } => needed,
         }
+    }
+
+    /// The layer that it comes from, which is the replay's for all of them.
+    pub fn layer(self) -> Layer
+        ensures { layer_number result ≡ build_layer self }
+    {
+        Layer::Replay
     }
 }

@@ -1,16 +1,12 @@
 //! Why a replay refuses. A store's refusal is carried whole, with the number of its step.
+//! stays: the numbers are those of the X lines; a definition gives each case its own, so they stand written out.
 ghost use Rattle.std.specs.Prelude.{◌≡◌};
-ghost use Rattle.refusals.specs.Fault.{replay_number, replay_step, replay_values, marked};
+ghost use Rattle.graph.specs.Layer.{layer_number};
+ghost use Rattle.refusals.specs.Fault.{replay_number, replay_step, replay_values, replay_layer, replay_place};
 ghost use Rattle.refusals.specs.declared.fault.ReplayFault.TheVariants.{Store};
 
-use graph::fault::StoreFault;
-
-/// A store's refusal at a step: 0 is the triangle, and the first step is 1.
-#[derive(Clone, Copy)]
-pub struct AtStep {
-    pub step: usize,
-    pub fault: StoreFault,
-}
+use graph::fault::{At, StoreFault};
+use graph::layer::Layer;
 
 /// A replay's refusal.
 #[derive(Clone, Copy, PartialEq, Eq, Debug)]
@@ -35,12 +31,12 @@ impl ReplayFault {
         ensures { result ≡ replay_number self }
     {
         match self {
-            ReplayFault::Store { step: _, fault } => fault.number(),
+            ReplayFault::Store { fault, .. } => fault.number(),
             ReplayFault::HasJoins => 10,
             ReplayFault::NotTriangle => 11,
-            ReplayFault::InUse { step: _, table: _ } => 12,
-            ReplayFault::NotInUse { step: _, table: _ } => 13,
-            ReplayFault::Unused { table: _ } => 14,
+            ReplayFault::InUse { .. } => 12,
+            ReplayFault::NotInUse { .. } => 13,
+            ReplayFault::Unused { .. } => 14,
         }
     }
 
@@ -49,12 +45,9 @@ impl ReplayFault {
         ensures { result ≡ replay_step self }
     {
         match self {
-            ReplayFault::Store { step, fault: _ } => step,
-            ReplayFault::HasJoins => 0,
-            ReplayFault::NotTriangle => 0,
-            ReplayFault::InUse { step, table: _ } => step,
-            ReplayFault::NotInUse { step, table: _ } => step,
-            ReplayFault::Unused { table: _ } => 0,
+            ReplayFault::Store { step, .. } => step,
+            ReplayFault::InUse { step, .. } | ReplayFault::NotInUse { step, .. } => step,
+            ReplayFault::HasJoins | ReplayFault::NotTriangle | ReplayFault::Unused { .. } => 0,
         }
     }
 
@@ -63,33 +56,44 @@ impl ReplayFault {
         ensures { result ≡ replay_values self }
     {
         match self {
-            ReplayFault::Store { step: _, fault } => fault.values(),
-            ReplayFault::HasJoins => [0, 0],
-            ReplayFault::NotTriangle => [0, 0],
-            ReplayFault::InUse { step: _, table } => [table, 0],
-            ReplayFault::NotInUse { step: _, table } => [table, 0],
+            ReplayFault::Store { fault, .. } => fault.values(),
+            ReplayFault::HasJoins | ReplayFault::NotTriangle => [0, 0],
+            ReplayFault::InUse { table, .. } | ReplayFault::NotInUse { table, .. } => [table, 0],
             ReplayFault::Unused { table } => [table, 0],
         }
     }
-}
 
-impl From<AtStep> for ReplayFault {
-    ghost from_gives = { λ p r. r ≡ Store p.step p.fault };
+    /// The layer that it comes from: the store, or the replay itself.
+    pub fn layer(self) -> Layer
+        ensures { layer_number result ≡ replay_layer self }
+    {
+        match self {
+            ReplayFault::Store { .. } => Layer::Store,
+            _ => Layer::Replay,
+        }
+    }
 
-    fn from(p: AtStep) -> ReplayFault {
-        ReplayFault::Store {
-            step: p.step,
-            fault: p.fault,
+    /// The step that it names, or the table that no step has put into use, or 0.
+    pub fn place(self) -> usize
+        ensures { result ≡ replay_place self }
+    {
+        match self {
+            ReplayFault::Unused { table } => table as usize,
+            fault => fault.step(),
         }
     }
 }
 
-/// A store's answer, with the step that it was given at.
-pub fn at_step(step: usize, r: Result<(), StoreFault>) -> Result<(), AtStep>
-    ensures { result ≡ marked step r }
-{
-    match r {
-        Ok(done) => Ok(done),
-        Err(fault) => Err(AtStep { step, fault }),
+/// The place is the step: 0 is the triangle, and the first step is 1.
+// stays: `?` asks for one conversion for each error. The case names what the place is (a step), as the offset in
+// `QueryFault`; `At` has one word for both
+impl From<At<StoreFault>> for ReplayFault {
+    ghost from_gives = { λ p r. r ≡ Store p.place p.fault };
+
+    fn from(refused: At<StoreFault>) -> ReplayFault {
+        ReplayFault::Store {
+            step: refused.place,
+            fault: refused.fault,
+        }
     }
 }

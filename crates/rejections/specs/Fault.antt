@@ -1,18 +1,12 @@
 -- The number, the layer and the place of each refusal of a query text.
 --
---   query_number f    its number: what is carried keeps its own
---   query_layer f     1 text, 2 store, 4 rows
---   query_place f     a text's place or amount; else the offset of the line
---   join_marked p r   a store's answer to the J line at p
---   row_marked p r    a catalogue's answer to the R line at p
-use Rattle.std.specs.Prelude.{ℕ, Ok, Err, Result}
+--   query_number f   its number: what is carried keeps its own
+--   query_layer f    1 text, 2 store, 4 rows
+--   query_place f    a text's place or amount; else the offset of the line
+use Rattle.std.specs.Prelude.{ℕ}
 use Rattle.graph.specs.Fault.{store_number}
-use Rattle.graph.specs.declared.fault.StoreFault.{StoreFault}
 use Rattle.catalogue.specs.Fault.{row_number}
-use Rattle.catalogue.specs.declared.fault.RowFault.{RowFault}
 use Rattle.texts.specs.Fault.{text_number, text_value}
-use Rattle.rejections.specs.declared.fault.AtJoin.{AtJoin}
-use Rattle.rejections.specs.declared.fault.AtRow.{AtRow}
 use Rattle.rejections.specs.declared.fault.QueryFault.{QueryFault}
 use Rattle.rejections.specs.declared.fault.QueryFault.TheVariants.{Text, Join, Row}
 
@@ -30,11 +24,3 @@ abbrev pub query_place : QueryFault → ℕ
 query_place (Text f) = text_value f
 query_place (Join p f) = p
 query_place (Row p f) = p
-
-abbrev pub join_marked : ℕ → Result Unit StoreFault → Result Unit AtJoin
-join_marked p (Ok u) = Ok u
-join_marked p (Err f) = Err (record { place = p; fault = f })
-
-abbrev pub row_marked : ℕ → Result Unit RowFault → Result Unit AtRow
-row_marked p (Ok u) = Ok u
-row_marked p (Err f) = Err (record { place = p; fault = f })

@@ -1,25 +1,13 @@
 //! Why a query text is refused. What a store or a catalogue refuses is carried whole, with the offset of its line.
 ghost use Rattle.std.specs.Prelude.{◌≡◌};
-ghost use Rattle.rejections.specs.Fault.{query_number, query_layer, query_place, join_marked, row_marked};
+ghost use Rattle.graph.specs.Layer.{layer_number};
+ghost use Rattle.rejections.specs.Fault.{query_number, query_layer, query_place};
 ghost use Rattle.rejections.specs.declared.fault.QueryFault.TheVariants.{Text, Join, Row};
 
 use catalogue::fault::RowFault;
-use graph::fault::StoreFault;
+use graph::fault::{At, StoreFault};
+use graph::layer::Layer;
 use texts::fault::TextFault;
-
-/// A store's refusal of the J line at an offset.
-#[derive(Clone, Copy)]
-pub struct AtJoin {
-    pub place: usize,
-    pub fault: StoreFault,
-}
-
-/// A row count's refusal in the R line at an offset.
-#[derive(Clone, Copy)]
-pub struct AtRow {
-    pub place: usize,
-    pub fault: RowFault,
-}
 
 /// A query text's refusal.
 #[derive(Clone, Copy, PartialEq, Eq, Debug)]
@@ -40,45 +28,30 @@ impl From<TextFault> for QueryFault {
     }
 }
 
-impl From<AtJoin> for QueryFault {
+/// The place is the offset of the J line.
+// stays: `?` asks for one conversion for each error. The cases name what the place is (an offset), as the step in
+// `ReplayFault`; `At` has one word for both
+impl From<At<StoreFault>> for QueryFault {
     ghost from_gives = { λ p r. r ≡ Join p.place p.fault };
 
-    fn from(p: AtJoin) -> QueryFault {
+    fn from(join: At<StoreFault>) -> QueryFault {
         QueryFault::Join {
-            place: p.place,
-            fault: p.fault,
+            place: join.place,
+            fault: join.fault,
         }
     }
 }
 
-impl From<AtRow> for QueryFault {
+/// The place is the offset of the R line.
+// stays: the case names what the place is (an offset), as the step in `ReplayFault`; `At` has one word for both
+impl From<At<RowFault>> for QueryFault {
     ghost from_gives = { λ p r. r ≡ Row p.place p.fault };
 
-    fn from(row: AtRow) -> QueryFault {
+    fn from(row: At<RowFault>) -> QueryFault {
         QueryFault::Row {
             place: row.place,
             fault: row.fault,
         }
-    }
-}
-
-/// A store's answer, with the offset of the J line that it was given at.
-pub fn at_join(place: usize, r: Result<(), StoreFault>) -> Result<(), AtJoin>
-    ensures { result ≡ join_marked place r }
-{
-    match r {
-        Ok(done) => Ok(done),
-        Err(fault) => Err(AtJoin { place, fault }),
-    }
-}
-
-/// A catalogue's answer, with the offset of the R line that it was given at.
-pub fn at_row(place: usize, r: Result<(), RowFault>) -> Result<(), AtRow>
-    ensures { result ≡ row_marked place r }
-{
-    match r {
-        Ok(done) => Ok(done),
-        Err(fault) => Err(AtRow { place, fault }),
     }
 }
 
@@ -89,19 +62,19 @@ impl QueryFault {
     {
         match self {
             QueryFault::Text(fault) => fault.number(),
-            QueryFault::Join { place: _, fault } => fault.number(),
-            QueryFault::Row { place: _, fault } => fault.number(),
+            QueryFault::Join { fault, .. } => fault.number(),
+            QueryFault::Row { fault, .. } => fault.number(),
         }
     }
 
-    /// 1 text, 2 store, 4 rows.
-    pub fn layer(self) -> u32
-        ensures { result ≡ query_layer self }
+    /// The layer that refuses: the text, the store or the rows.
+    pub fn layer(self) -> Layer
+        ensures { layer_number result ≡ query_layer self }
     {
         match self {
-            QueryFault::Text(_) => 1,
-            QueryFault::Join { place: _, fault: _ } => 2,
-            QueryFault::Row { place: _, fault: _ } => 4,
+            QueryFault::Text(_) => Layer::Text,
+            QueryFault::Join { .. } => Layer::Store,
+            QueryFault::Row { .. } => Layer::Rows,
         }
     }
 
@@ -110,12 +83,8 @@ impl QueryFault {
         ensures { result ≡ query_place self }
     {
         match self {
-            QueryFault::Text(TextFault::BadForm { place }) => place,
-            QueryFault::Text(TextFault::Misplaced { place }) => place,
-            QueryFault::Text(TextFault::OutOfLimits { place }) => place,
-            QueryFault::Text(TextFault::TooFew { needed }) => needed,
-            QueryFault::Join { place, fault: _ } => place,
-            QueryFault::Row { place, fault: _ } => place,
+            QueryFault::Text(fault) => fault.place(),
+            QueryFault::Join { place, .. } | QueryFault::Row { place, .. } => place,
         }
     }
 }

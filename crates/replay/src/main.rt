@@ -2,23 +2,15 @@
 //! line. All that matters is in the library; here is only reading and writing.
 #![tactic(auto)]
 
-ghost use Rattle.std.specs.Prelude.{◌≡◌, take};
-
 use programs::replay::{replay_page, replay_text};
 use programs::workspace::{Mark, PAGE, TEXT};
 use std::io;
 use std::io::{Read, Write};
-use streams::input::{read_rest, read_whole};
+use streams::input::{read_rest, read_whole, take_over};
 use theory::step::Step;
 
-/// Puts what was read into the longer text.
-fn take_over(text: &mut [u8; TEXT], page: &[u8; PAGE])
-    ensures { take 4096 text.new ≡ page.now }
-{
-    text[0..PAGE].copy_from_slice(page);
-}
-
 /// Reads on into memory for the longest text, where a page was not enough, and prints.
+// stays: apart from `assemble`, which reads on in two turns, and lends more: a trait over both is longer than the two functions
 fn replay_long<R: Read, W: Write>(
     input: &mut R,
     output: &mut W,
@@ -39,7 +31,7 @@ fn replay_long<R: Read, W: Write>(
 fn main(rt: HostRuntime) -> io::Result<()> {
     let mut page = [0u8; PAGE];
     let mut steps = [Step::Edge { v: 0, w: 0 }; 2013];
-    // the three programs hold the same memory; this one reads no marks
+    // the programs hold the same memory; this one reads no marks
     let _marks = [Mark { v: 0, w: 0 }; 63];
     let mut input = rt.stdin();
     let mut output = rt.stdout();

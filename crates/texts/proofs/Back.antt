@@ -26,7 +26,8 @@ use Rattle.texts.specs.ListWrite.{triangle_over, step_over, steps_over, list_len
 use Rattle.texts.specs.declared.fault.TextFault.{TextFault}
 use Rattle.texts.specs.declared.fault.TextFault.TheVariants.{OutOfLimits, TooFew}
 use Rattle.texts.specs.declared.list.Head.{Head}
-use Rattle.texts.proofs.Laying.{put_more, laid_agrees}
+use Rattle.texts.proofs.Laying.{laid_agrees}
+use Rattle.writer.proofs.Lays.{put_more}
 use Rattle.texts.proofs.Lists.{refused, unless_so}
 use Rattle.texts.proofs.Stands.{list_text_length, list_front, list_mid, list_back}
 

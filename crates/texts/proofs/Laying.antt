@@ -1,29 +1,17 @@
 -- Bytes laid over a buffer: what stands where afterwards.
 --
 --   laid_length   a buffer keeps its length
---   put_more      one element put in, and more laid after it
---   laid_parts    what was there before, the bytes laid, and what was there after them
 --   laid_agrees   the bytes laid stand from their place on
 --   laid_whole    the same from the buffer's start on
-use Rattle.std.proofs.Common.{◌≡◌, ℕ, ◌+◌, ◌<◌, ◌≤◌, List, [], ◌∷◌, ◌++◌, length, get_or, take, drop, set, sym, refl, ap, ◌∙◌, append_assoc, arith, length-set, take-append-drop}
-use Rattle.std.proofs.lemmas.List.{take_more_set, drop-set-lt, length-take-le, get_or_append_left, get_or-append_right}
+use Rattle.std.proofs.Common.{◌≡◌, ℕ, ◌+◌, ◌≤◌, List, [], ◌∷◌, ◌++◌, length, get_or, take, drop, set, sym, refl, ap, ◌∙◌, arith, length-set}
+use Rattle.std.proofs.lemmas.List.{length-take-le, get_or_append_left, get_or-append_right}
 use Rattle.lines.specs.Form.{Agrees}
 use Rattle.writer.specs.Laid.{laid}
+use Rattle.writer.proofs.Lays.{laid_parts}
 
 pub laid_length : (xs : List ℕ) (at : ℕ) (ys : List ℕ) → length (laid xs at ys) ≡ length xs
 laid_length xs at [] = refl
 laid_length xs at (y ∷ ys) = laid_length (set xs at y) (at + 1) ys ∙ length-set xs at y
-
-pub put_more : {X : Type 0} (xs : List X) (at n : ℕ) (y : X) (ys : List X) → at < length xs → at < n
-    → take (at + 1) (set xs at y) ++ (ys ++ drop n (set xs at y)) ≡ take at xs ++ y ∷ (ys ++ drop n xs)
-put_more xs at n y ys h k = rw (take_more_set xs at y h, drop-set-lt n xs at y k, append_assoc)
-
-pub laid_parts : (xs : List ℕ) (at : ℕ) (ys : List ℕ) → at + length ys ≤ length xs → laid xs at ys ≡ take at xs ++ (ys ++ drop (at + length ys) xs)
-laid_parts xs at [] h = sym (take-append-drop at xs) ∙ ap (λ n. take at xs ++ drop n xs) (omega arith)
-laid_parts xs at (y ∷ ys) h =
-    laid_parts (set xs at y) (at + 1) ys (simp length-set (omega arith))
-    ∙ put_more xs at (at + 1 + length ys) y ys (omega arith) (omega arith)
-    ∙ ap (λ n. take at xs ++ y ∷ (ys ++ drop n xs)) (omega arith)
 
 pub laid_agrees : (out : List ℕ) (at : ℕ) (text : List ℕ) → at + length text ≤ length out → Agrees text (laid out at text) at (length text)
 laid_agrees out at text h j k =

@@ -6,5 +6,6 @@ pub mod Stands
 pub mod Able
 pub mod Lists
 pub mod Refused
+pub mod Near
 pub mod Told
 pub mod Back

@@ -15,6 +15,7 @@ use Rattle.lines.specs.Read.{line_at}
 use Rattle.lines.specs.Text.{line_text}
 use Rattle.lines.specs.declared.line.Fields.{Fields}
 use Rattle.lines.specs.declared.line.Fields.TheVariants.{Three, LastTwo, FirstTwo, Counted, Single}
+use Rattle.lines.specs.declared.line.BadByte.{BadByte}
 use Rattle.lines.specs.declared.line.Line.{Line}
 use Rattle.lines.proofs.Bytes.{line_length}
 use Rattle.lines.proofs.Pieces.{agrees_both}
@@ -31,7 +32,7 @@ use Rattle.texts.specs.declared.fault.TextFault.{TextFault}
 use Rattle.texts.specs.declared.fault.TextFault.TheVariants.{Misplaced, OutOfLimits, TooFew}
 use Rattle.texts.specs.declared.list.Head.{Head}
 use Rattle.texts.proofs.Able.{writes_able}
-use Rattle.texts.proofs.Laying.{put_more}
+use Rattle.writer.proofs.Lays.{put_more}
 use Rattle.texts.proofs.Stands.{Stands, line_stands, agrees_part, list_text_length, list_agrees}
 
 -- a refusal is no answer
@@ -48,7 +49,7 @@ unless_so false r e x q = (refl, q)
 unless_so true r e x q = refused e x q
 
 -- a line that a judgement of its letter and fields accepts
-line_so : {X : Type 0} (judge : ℕ → Fields → Result X TextFault) (r : Result Line ℕ) (x : X) → next (in_form r) (λ l. judge l.letter l.fields) ≡ Ok x
+line_so : {X : Type 0} (judge : ℕ → Fields → Result X TextFault) (r : Result Line BadByte) (x : X) → next (in_form r) (λ l. judge l.letter l.fields) ≡ Ok x
     → (l : Line) × (r ≡ Ok l) × (judge l.letter l.fields ≡ Ok x)
 line_so judge (Ok l) x q = (l, refl, q)
 line_so judge (Err p) x q = refused _ x q

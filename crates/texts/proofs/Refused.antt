@@ -13,6 +13,7 @@ use Rattle.lines.specs.declared.line.Layout.{Layout}
 use Rattle.lines.specs.declared.line.Layout.TheVariants as layouts
 use Rattle.lines.specs.declared.line.Fields.{Fields}
 use Rattle.lines.specs.declared.line.Fields.TheVariants.{Three, LastTwo, FirstTwo, Counted, Single}
+use Rattle.lines.specs.declared.line.BadByte.{BadByte}
 use Rattle.lines.specs.declared.line.Line.{Line}
 use Rattle.lines.proofs.Lines.{line_read}
 use Rattle.theory.specs.declared.step.Step.{Step}
@@ -83,9 +84,9 @@ module _ (text : List ℕ) (at room : ℕ) where
     judged_told l (Err e) here j = subst (RefusedFor text at room) (sym j.0) (letter_off l here j.1)
 
     line_told : {X : Type 0} (judge : ℕ → Fields → Result X TextFault) → ((c : ℕ) (f : Fields) → layout c ≡ Some (layout_of f) → Judged i (at + 17 * i) c (judge c f))
-        → (r : Result Line ℕ) → LineRead text (at + 17 * i) r → LineTold i (next (in_form r) (λ l. judge l.letter l.fields))
+        → (r : Result Line BadByte) → LineRead text (at + 17 * i) r → LineTold i (next (in_form r) (λ l. judge l.letter l.fields))
     line_told judge so (Ok l) p = judged_told l (judge l.letter l.fields) (record { written = p.0; agrees = p.1 }) (so l.letter l.fields p.0.listed)
-    line_told judge so (Err q) p = form_off q p
+    line_told judge so (Err bad) p = form_off bad.place p
 
   -- before any line
   stood_none : Stood text at room 0
@@ -122,9 +123,9 @@ module _ (text : List ℕ) (at room : ℕ) where
   head_judged c (Counted t z) here = head_misplaced _ here (apart c 72 _ layouts.Three here.written.listed refl (λ s. let z : ◌≡◌ {A = ℕ} 0 1 = cc in omega arith))
   head_judged c (Single o) here = head_misplaced _ here (apart c 72 _ layouts.Three here.written.listed refl (λ s. let z : ◌≡◌ {A = ℕ} 0 1 = cc in omega arith))
 
-  head_told : (r : Result Line ℕ) → LineRead text at r → HeadTold (next (in_form r) (λ l. head_of at room l.letter l.fields))
+  head_told : (r : Result Line BadByte) → LineRead text at r → HeadTold (next (in_form r) (λ l. head_of at room l.letter l.fields))
   head_told (Ok l) p = head_judged l.letter l.fields (record { written = p.0; agrees = p.1 })
-  head_told (Err q) p = form_off 0 stood_none q (subst (λ a. Longest text a q) (sym first) p)
+  head_told (Err bad) p = form_off 0 stood_none bad.place (subst (λ a. Longest text a bad.place) (sym first) p)
 
   -- after an H line that is accepted
   module _ (n m k : ℕ) (here : Headed text at n m k) (inside : outside_limits n m k ≡ false) (enough : k ≤ room) where
@@ -185,7 +186,7 @@ unfolding list_read
 refused_text text at l = by_head text at (length l) l (head_at text at (length l)) (head_told text at (length l) (line_at text at) (line_read text at))
 
 module _ (text : List ℕ) (at : ℕ) where
-  by_line : (r : Result Line ℕ) → (at ≡ length text → ⊥) → LineRead text at r → Follows text at (end_of at r)
+  by_line : (r : Result Line BadByte) → (at ≡ length text → ⊥) → LineRead text at r → Follows text at (end_of at r)
   by_line (Ok l) never p = (refl, l, record { written = p.0; agrees = p.1 })
   by_line (Err q) never p = (p, never)
 

@@ -1,14 +1,15 @@
 -- Lines laid one after another, as the writers of texts do it.
 --
 --   laid_room       a line with room for it is laid whole
---   over_on, over_off, over_end   the check of the steps' numbers: on, refused, and at its end
+--   over_first      what the first step with a number that is too large tells of the steps
 --   joined_length   the text of k lines has 17 * k bytes
 --   lines_more      one more line, after those of the first i of a list
 --   list_laid       heading, triangle and steps, laid one after another, are the whole text of a list
-use Rattle.std.proofs.Common.{◌≡◌, ℕ, ◌+◌, ◌*◌, ◌<◌, ◌≤◌, true, false, cond, List, [], ◌∷◌, ◌++◌, length, get_or, take, drop, Ok, Err, Result, sym, refl, ap, ◌∙◌, arith, length-append}
-use Rattle.std.specs.List.{flat_map}
-use Rattle.std.proofs.lemmas.List.{at_drop_more, at_drop_all, take_more, flat_map_more, length-take-le}
+use Rattle.std.proofs.Common.{◌≡◌, ℕ, ◌+◌, ◌*◌, ◌<◌, ◌≤◌, Bool, true, false, cond, List, [], ◌∷◌, ◌++◌, length, get_or, take, Some, None, Option, Ok, Err, Result, sym, refl, ap, ◌∙◌, arith, length-append}
+use Rattle.std.specs.List.{flat_map, position, position_from}
+use Rattle.std.proofs.lemmas.List.{take_more, flat_map_more, length-take-le}
 use Rattle.std.proofs.lemmas.Bool.{le-leb}
+use Rattle.std.proofs.lemmas.Iterator.Adapters.{position_from-zero}
 use Rattle.lines.specs.Text.{line_text}
 use Rattle.lines.specs.declared.line.Line.{Line}
 use Rattle.lines.proofs.Bytes.{line_length}
@@ -25,23 +26,27 @@ use Rattle.texts.specs.declared.fault.TextFault.TheVariants.{OutOfLimits}
 pub laid_room : (xs : List ℕ) (at : ℕ) (l : Line) → at + 17 ≤ length xs → laid_line xs at l ≡ laid xs at (line_text l)
 laid_room xs at l h = ap (λ b. cond b (laid xs at (line_text l)) xs) (le-leb (at + 17) (length xs) h)
 
-module _ (whole : Result Unit TextFault) (l : List Step) (i : ℕ) (inv : whole ≡ steps_over (34 + 17 * i) (drop i l)) where
-  over_next : (d : Step) → i < length l → whole ≡ cond (step_over (get_or l i d)) (Err (OutOfLimits (34 + 17 * i))) (steps_over (34 + 17 * i + 17) (drop (i + 1) l))
-  unfolding steps_over
-  over_next d h = inv ∙ at_drop_more (steps_over (34 + 17 * i)) l i d h
+-- what is told of the first step with a number that is too large
+abbrev pub told_over : Option ℕ → Result Unit TextFault
+told_over None = Ok tt
+told_over (Some i) = Err (OutOfLimits (34 + 17 * i))
 
-  pub over_on : (d : Step) → i < length l → false ≡ step_over (get_or l i d) → whole ≡ steps_over (34 + 17 * (i + 1)) (drop (i + 1) l)
-  over_on d h fits =
-      over_next d h
-      ∙ ap (λ b. cond b (Err (OutOfLimits (34 + 17 * i))) (steps_over (34 + 17 * i + 17) (drop (i + 1) l))) (sym fits)
-      ∙ ap (λ n. steps_over n (drop (i + 1) l)) (omega arith)
+over_next : (b : Bool) (i : ℕ) (r : Result Unit TextFault) (o : Option ℕ) → r ≡ told_over o → cond b (Err (OutOfLimits (34 + 17 * i))) r ≡ told_over (cond b (Some i) o)
+over_next true i r o e = refl
+over_next false i r o e = e
 
-  pub over_off : (d : Step) → i < length l → true ≡ step_over (get_or l i d) → whole ≡ Err (OutOfLimits (34 + 17 * i))
-  over_off d h bad = over_next d h ∙ ap (λ b. cond b (Err (OutOfLimits (34 + 17 * i))) (steps_over (34 + 17 * i + 17) (drop (i + 1) l))) (sym bad)
+over_from : (l : List Step) (i : ℕ) → steps_over (34 + 17 * i) l ≡ told_over (position_from step_over i l)
+unfolding steps_over
+over_from [] i = refl
+over_from (s ∷ l) i =
+    over_next (step_over s) i (steps_over (34 + 17 * i + 17) l) (position_from step_over (i + 1) l)
+    (ap (λ n. steps_over n l) (omega arith) ∙ over_from l (i + 1))
 
-  pub over_end : length l ≤ i → whole ≡ Ok tt
-  unfolding steps_over
-  over_end h = inv ∙ at_drop_all (steps_over (34 + 17 * i)) l i h
+pub over_first : (l : List Step) (o : Option ℕ) → o ≡ position step_over l → told_over o ≡ steps_over 34 l
+over_first l o e =
+    ap told_over (e ∙ position_from-zero step_over l)
+    ∙ sym (over_from l 0)
+    ∙ ap (λ n. steps_over n l) (omega arith)
 
 pub joined_length : {X : Type 0} (f : X → Line) (l : List X) → length (flat_map (λ x. line_text (f x)) l) ≡ 17 * length l
 joined_length f [] = refl

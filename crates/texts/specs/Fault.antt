@@ -5,6 +5,7 @@
 --   next r f        the value goes on to what follows, and a refusal ends it
 --   in_form r       the reading of a line, with 15 at the place where it fails
 use Rattle.std.specs.Prelude.{ℕ, Ok, Err, Result}
+use Rattle.lines.specs.declared.line.BadByte.{BadByte}
 use Rattle.lines.specs.declared.line.Line.{Line}
 use Rattle.texts.specs.declared.fault.TextFault.{TextFault}
 use Rattle.texts.specs.declared.fault.TextFault.TheVariants.{BadForm, Misplaced, OutOfLimits, TooFew}
@@ -25,6 +26,6 @@ abbrev pub next : {X Y F : Type 0} → Result X F → (X → Result Y F) → Res
 next (Ok x) f = f x
 next (Err e) f = Err e
 
-abbrev pub in_form : Result Line ℕ → Result Line TextFault
+abbrev pub in_form : Result Line BadByte → Result Line TextFault
 in_form (Ok l) = Ok l
-in_form (Err p) = Err (BadForm p)
+in_form (Err bad) = Err (BadForm bad.place)

@@ -1,4 +1,5 @@
 pub mod Fault
+pub mod Reader
 pub mod ListText
 pub mod ListRead
 pub mod ListWrite

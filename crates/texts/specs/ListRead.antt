@@ -10,6 +10,7 @@ use Rattle.std.specs.Prelude.{ℕ, zero, suc, ◌+◌, ◌-◌, ◌*◌, Bool, c
 use Rattle.lines.specs.Read.{line_at}
 use Rattle.lines.specs.declared.line.Fields.{Fields}
 use Rattle.lines.specs.declared.line.Fields.TheVariants.{Three, LastTwo, FirstTwo, Counted, Single}
+use Rattle.lines.specs.declared.line.BadByte.{BadByte}
 use Rattle.lines.specs.declared.line.Line.{Line}
 use Rattle.theory.specs.declared.step.Step.{Step}
 use Rattle.theory.specs.declared.step.Step.TheVariants.{Edge, Node}
@@ -96,9 +97,9 @@ list_read text at l =
     list_with (triangle_at text (at + 17)) (λ t.
     list_after h t (at + 34 + 17 * h.steps) (steps_read text (at + 34) h.steps 0 l)) l) l
 
-abbrev pub end_of : ℕ → Result Line ℕ → Result Unit TextFault
+abbrev pub end_of : ℕ → Result Line BadByte → Result Unit TextFault
 end_of at (Ok l) = Err (Misplaced at)
-end_of at (Err p) = Err (BadForm p)
+end_of at (Err bad) = Err (BadForm bad.place)
 
 abbrev pub end_at : List ℕ → ℕ → Result Unit TextFault
 end_at text at = cond (at == length text) (Ok tt) (end_of at (line_at text at))

@@ -1,6 +1,10 @@
 //! Why a text is refused.
+//! stays: the numbers are those of the X lines; a definition gives each case its own, so they stand written out.
 ghost use Rattle.std.specs.Prelude.{◌≡◌};
-ghost use Rattle.texts.specs.Fault.{text_number};
+ghost use Rattle.texts.specs.Fault.{text_number, text_value};
+ghost use Rattle.texts.specs.declared.fault.TextFault.TheVariants.{BadForm};
+
+use lines::line::BadByte;
 
 /// A text's refusal, with the place in the text, or the amount, that it names.
 #[derive(Clone, Copy, PartialEq, Eq, Debug)]
@@ -15,6 +19,15 @@ pub enum TextFault {
     TooFew { needed: usize },
 }
 
+/// A byte that cannot stand in a line is a text's refusal at its place.
+impl From<BadByte> for TextFault {
+    ghost from_gives = { λ bad r. r ≡ BadForm bad.place };
+
+    fn from(bad: BadByte) -> TextFault {
+        TextFault::BadForm { place: bad.place }
+    }
+}
+
 impl TextFault {
     /// The refusal's number.
     pub fn number(self) -> u32
@@ -25,6 +38,18 @@ impl TextFault {
             TextFault::Misplaced { place: _ } => 16,
             TextFault::OutOfLimits { place: _ } => 17,
             TextFault::TooFew { needed: _ } => 9,
+        }
+    }
+
+    /// The place in the text, or the amount that it names.
+    pub fn place(self) -> usize
+        ensures { result ≡ text_value self }
+    {
+        match self {
+            TextFault::BadForm { place } => place,
+            TextFault::Misplaced { place } => place,
+            TextFault::OutOfLimits { place } => place,
+            TextFault::TooFew { needed } => needed,
         }
     }
 }

@@ -4,3 +4,4 @@
 pub mod fault;
 pub mod list;
 pub mod list_write;
+pub mod reader;

@@ -1,13 +1,14 @@
 //! The text of a build list: an H line (tables, joins, steps), a T line (the triangle), then one line a step.
-ghost use Rattle.std.specs.Prelude.{◌≡◌, ℕ, ◌+◌, ◌-◌, ◌*◌, ◌<◌, ◌≤◌, length, IfOk, IfErr, OnOk};
-ghost use Rattle.lines.specs.Read.{line_at};
-ghost use Rattle.texts.specs.Fault.{in_form, text_value};
+ghost use Rattle.std.specs.Prelude.{◌≡◌, ◌+◌, ◌≤◌, length, IfOk, IfErr, OnOk};
+ghost use Rattle.texts.specs.Fault.{text_value};
+ghost use Rattle.texts.specs.Reader.{past, past_lines};
 ghost use Rattle.texts.specs.ListRead.{head_at, triangle_at, step_at, steps_read, list_read, end_at};
 ghost use Rattle.texts.specs.ListLaw.{SameText, RefusedText, Follows};
 
 use super::fault::TextFault;
+use super::reader::Reader;
 use columns::read::read_line;
-use lines::line::{Fields, Line};
+use lines::line::Fields;
 use theory::step::{Step, Triangle};
 
 /// What an H line says: the number of tables, and the number of steps.
@@ -26,79 +27,98 @@ pub struct Heading {
     pub end: usize,
 }
 
-/// The line at an offset, or 15 with its place.
-pub fn form_line(text: &[u8], at: usize) -> Result<Line, TextFault>
-    ensures answer { result ≡ in_form (line_at text.now at) }
-    ensures within { OnOk result (at + 17 ≤ length text.now) }
-    ensures near { IfErr result (λ f. text_value f ≤ at + 16) }
-{
-    match read_line(text, at) {
-        Ok(line) => Ok(line),
-        Err(place) => Err(TextFault::BadForm { place }),
-    }
-}
-
-/// The H line, judged in the order 15, 16, 17, 9.
-fn head_line(text: &[u8], at: usize, room: usize) -> Result<Head, TextFault>
-    ensures answer { result ≡ head_at text.now at room }
-    ensures within { IfOk result (λ h. (at + 17 ≤ length text.now) × (h.steps ≤ 2013) × (h.steps ≤ room)) }
-    ensures near { IfErr result (λ f. text_value f ≤ at + 2013) }
-{
-    let line = form_line(text, at)?;
-    match (line.letter, line.fields) {
-        ('H', Fields::Three(tables, joins, steps)) => {
-            if tables < 3 || tables > 64 || joins > 2016 || joins < 3 || steps != joins - 3 {
-                return Err(TextFault::OutOfLimits { place: at });
+impl Reader<'_> {
+    /// The H line, judged in the order 15, 16, 17, 9.
+    // stays: that the reader has passed a line is said of each kind of line, since only its own clause says it to a caller
+    fn head(&mut self, room: usize) -> Result<Head, TextFault>
+        ensures answer { result ≡ head_at self.old.text.now self.old.at room }
+        ensures room { IfOk result (λ h. h.steps ≤ room) }
+        ensures onward { OnOk result (self.new ≡ past self.old) }
+    {
+        let at = self.at;
+        let line = self.line()?;
+        match (line.letter, line.fields) {
+            ('H', Fields::Three(tables, joins, steps)) => {
+                if tables < 3 || tables > 64 || joins > 2016 || joins < 3 || steps != joins - 3 {
+                    return Err(TextFault::OutOfLimits { place: at });
+                }
+                let steps = steps as usize;
+                if room < steps {
+                    return Err(TextFault::TooFew { needed: steps });
+                }
+                Ok(Head { tables, steps })
             }
-            let steps = steps as usize;
-            if room < steps {
-                return Err(TextFault::TooFew { needed: steps });
-            }
-            Ok(Head { tables, steps })
+            _ => Err(TextFault::Misplaced { place: at }),
         }
-        _ => Err(TextFault::Misplaced { place: at }),
     }
-}
 
-/// The T line.
-fn triangle_line(text: &[u8], at: usize) -> Result<Triangle, TextFault>
-    ensures answer { result ≡ triangle_at text.now at }
-    ensures within { OnOk result (at + 17 ≤ length text.now) }
-    ensures near { IfErr result (λ f. text_value f ≤ at + 16) }
-{
-    let line = form_line(text, at)?;
-    match (line.letter, line.fields) {
-        ('T', Fields::Three(a, b, c)) => Ok(Triangle { a, b, c }),
-        _ => Err(TextFault::Misplaced { place: at }),
+    /// The T line.
+    fn triangle(&mut self) -> Result<Triangle, TextFault>
+        ensures answer { result ≡ triangle_at self.old.text.now self.old.at }
+        ensures onward { OnOk result (self.new ≡ past self.old) }
+    {
+        let at = self.at;
+        let line = self.line()?;
+        match (line.letter, line.fields) {
+            ('T', Fields::Three(a, b, c)) => Ok(Triangle { a, b, c }),
+            _ => Err(TextFault::Misplaced { place: at }),
+        }
     }
-}
 
-/// An N line or an E line.
-fn step_line(text: &[u8], at: usize) -> Result<Step, TextFault>
-    ensures answer { result ≡ step_at text.now at }
-    ensures within { OnOk result (at + 17 ≤ length text.now) }
-    ensures near { IfErr result (λ f. text_value f ≤ at + 16) }
-{
-    let line = form_line(text, at)?;
-    match (line.letter, line.fields) {
-        ('N', Fields::Three(u, v, w)) => Ok(Step::Node { u, v, w }),
-        ('E', Fields::LastTwo(v, w)) => Ok(Step::Edge { v, w }),
-        _ => Err(TextFault::Misplaced { place: at }),
+    /// An N line or an E line.
+    fn step(&mut self) -> Result<Step, TextFault>
+        ensures answer { result ≡ step_at self.old.text.now self.old.at }
+        ensures onward { OnOk result (self.new ≡ past self.old) }
+    {
+        let at = self.at;
+        let line = self.line()?;
+        match (line.letter, line.fields) {
+            ('N', Fields::Three(u, v, w)) => Ok(Step::Node { u, v, w }),
+            ('E', Fields::LastTwo(v, w)) => Ok(Step::Edge { v, w }),
+            _ => Err(TextFault::Misplaced { place: at }),
+        }
     }
-}
 
-/// The step lines from `at` on, laid into the first `count` records.
-fn read_steps(text: &[u8], at: usize, count: usize, records: &mut [Step]) -> Result<(), TextFault>
-    requires { (count ≤ length records.old) × ((count ≤ 2013) × (at ≤ length text.now)) }
-    ensures answer { result ≡ (steps_read text.now at count 0 records.old).told }
-    ensures filled { records.new ≡ (steps_read text.now at count 0 records.old).records }
-    ensures within { OnOk result (at + 17 * count ≤ length text.now) }
-    ensures near { IfErr result (λ f. text_value f ≤ length text.now + 16) }
-{
-    for i in 0..count {
-        records[i] = step_line(text, at + 17 * i)?;
+    /// As many step lines as there are records, laid into them.
+    fn steps(&mut self, records: &mut [Step]) -> Result<(), TextFault>
+        ensures effect { steps_read self.old.text.now self.old.at (length records.old) 0 records.old
+            ≡ record { told = result; records = records.new } }
+        ensures onward { OnOk result (self.new ≡ past_lines (length records.old) self.old) }
+    {
+        for record in records.iter_mut() {
+            *record = self.step()?;
+        }
+        Ok(())
     }
-    Ok(())
+
+    /// A whole list, its steps laid into the first records.
+    fn list(&mut self, records: &mut [Step]) -> Result<Heading, TextFault>
+        ensures { list_read self.old.text.now self.old.at records.old ≡ record { told = result; records = records.new } }
+    {
+        let head = self.head(records.len())?;
+        let triangle = self.triangle()?;
+        self.steps(&mut records[..head.steps])?;
+        Ok(Heading {
+            tables: head.tables,
+            triangle,
+            steps: head.steps,
+            end: self.at,
+        })
+    }
+
+    /// Nothing may follow where the reader stands: 15 where what follows is not in form, else 16.
+    pub fn end(&self) -> Result<(), TextFault>
+        ensures answer { result ≡ end_at self.now.text.now self.now.at }
+        // accepted, the text ends there; refused, something follows, a line in form where 16 is told
+        ensures follows { Follows self.now.text.now self.now.at result }
+        ensures near { IfErr result (λ f. text_value f ≤ self.now.at + 16) }
+    {
+        if self.at == self.text.len() {
+            return Ok(());
+        }
+        read_line(self.text, self.at)?;
+        Err(TextFault::Misplaced { place: self.at })
+    }
 }
 
 /// The build list whose text begins at `at`: its steps go into the first records, and the answer says where its text ends.
@@ -113,15 +133,8 @@ pub fn read_list(text: &[u8], at: usize, records: &mut [Step]) -> Result<Heading
     // no place or amount named is far beyond the text
     ensures near { IfErr result (λ f. text_value f ≤ at + length text.now + 2013) }
 {
-    let head = head_line(text, at, records.len())?;
-    let triangle = triangle_line(text, at + 17)?;
-    read_steps(text, at + 34, head.steps, records)?;
-    Ok(Heading {
-        tables: head.tables,
-        triangle,
-        steps: head.steps,
-        end: at + 34 + 17 * head.steps,
-    })
+    let mut reader = Reader { text, at };
+    reader.list(records)
 }
 
 /// Nothing may follow at `at`: 15 where what follows is not in form, else 16.
@@ -131,9 +144,5 @@ pub fn check_end(text: &[u8], at: usize) -> Result<(), TextFault>
     ensures follows { Follows text.now at result }
     ensures near { IfErr result (λ f. text_value f ≤ at + 16) }
 {
-    if at == text.len() {
-        return Ok(());
-    }
-    let _line = form_line(text, at)?;
-    Err(TextFault::Misplaced { place: at })
+    Reader { text, at }.end()
 }

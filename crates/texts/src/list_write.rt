@@ -1,6 +1,6 @@
 //! Writing a build list over bytes that are lent. A refusal writes nothing.
 ghost use Rattle.std.specs.Prelude.{◌≡◌, ℕ, ◌+◌, ◌-◌, ◌*◌, ◌<◌, ◌≤◌, length};
-ghost use Rattle.std.specs.List.{flat_map};
+ghost use Rattle.std.specs.List.{flat_map, position};
 ghost use Rattle.writer.specs.Laid.{laid, laid_line};
 ghost use Rattle.texts.specs.ListText.{step_line, step_text};
 ghost use Rattle.texts.specs.ListWrite.{step_over, steps_over, list_write_answer, list_written};
@@ -8,7 +8,7 @@ ghost use Rattle.texts.specs.ListLaw.{ReadsBack};
 
 use super::fault::TextFault;
 use theory::step::{Step, Triangle};
-use writer::line::{put_last_two, put_three};
+use writer::line::put_line;
 
 /// Whether a number of the step is too large for its field.
 fn is_over(step: Step) -> bool
@@ -20,26 +20,32 @@ fn is_over(step: Step) -> bool
     }
 }
 
+/// The first step that has such a number.
+fn first_over(steps: &[Step]) -> Option<usize>
+    ensures { result ≡ position step_over steps.now }
+{
+    steps.iter().position(|step| is_over(*step))
+}
+
 /// 17 with the offset of the first step line that has such a number.
 fn check_steps(steps: &[Step]) -> Result<(), TextFault>
     requires { length steps.now ≤ 2013 }
     ensures { result ≡ steps_over 34 steps.now }
 {
-    for (i, step) in steps.iter().enumerate() {
-        if is_over(*step) {
-            return Err(TextFault::OutOfLimits { place: 34 + 17 * i });
-        }
+    match first_over(steps) {
+        Some(i) => Err(TextFault::OutOfLimits { place: 34 + 17 * i }),
+        None => Ok(()),
     }
-    Ok(())
 }
 
 /// The line of one step.
+// stays: a match on the value's own cases
 fn put_step(out: &mut [u8], at: usize, step: Step)
     ensures { out.new ≡ laid_line out.old at (step_line step) }
 {
     match step {
-        Step::Edge { v, w } => put_last_two(out, at, b'E', v, w),
-        Step::Node { u, v, w } => put_three(out, at, b'N', u, v, w),
+        Step::Edge { v, w } => put_line(out, at, b'E', [None, Some(v), Some(w)]),
+        Step::Node { u, v, w } => put_line(out, at, b'N', [Some(u), Some(v), Some(w)]),
     }
 }
 
@@ -78,8 +84,11 @@ pub fn write_list(
     if out.len() < needed {
         return Err(TextFault::TooFew { needed });
     }
-    put_three(out, 0, b'H', tables, count as u32 + 3, count as u32);
-    put_three(out, 17, b'T', triangle.a, triangle.b, triangle.c);
+    let written = count as u32;
+    let numbers = [Some(tables), Some(written + 3), Some(written)];
+    put_line(out, 0, b'H', numbers);
+    let corners = [Some(triangle.a), Some(triangle.b), Some(triangle.c)];
+    put_line(out, 17, b'T', corners);
     put_steps(out, steps);
     Ok(needed)
 }

@@ -7,7 +7,8 @@ use Rattle.std.proofs.lemmas.Bool.{cases_eq, false≢true, both_ways, eq-eqb, ne
 use Rattle.disassembly.specs.Search.{has, discovery}
 use Rattle.disassembly.proofs.Members.{has_cases, has_more, Distinct}
 use Rattle.disassembly.proofs.Depth.{discovery_below}
-use Rattle.traversal.specs.Standing.{stacked, before}
+use Rattle.traversal.specs.Standing.{before}
+use Rattle.traversal.proofs.Stacks.{stacked}
 
 before_same : (y : ℕ) (l : List ℕ) (x : ℕ) → x ≡ y → before (y ∷ l) x ≡ l
 before_same y l x e = cond-true (eqb x y) l (before l x) (eq-eqb x y e)

@@ -22,7 +22,8 @@ use Rattle.disassembly.proofs.Visits.{visit_search, visit_left, Orderly, kept}
 use Rattle.disassembly.proofs.LowPoints.{low_cut_exactly}
 use Rattle.bits.specs.Rows.{bit}
 use Rattle.bits.proofs.Bit.{zero_bit}
-use Rattle.traversal.specs.Standing.{before, one_bit, row_joins}
+use Rattle.traversal.specs.Sets.{one_bit}
+use Rattle.traversal.specs.Standing.{before, row_joins}
 use Rattle.traversal.proofs.Sets.{and_bits, or_bits, put_bit, no_bits}
 use Rattle.traversal.proofs.Before.{before_less, less_before}
 

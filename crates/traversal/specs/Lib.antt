@@ -1,3 +1,5 @@
+pub mod Discoveries
+pub mod Sets
 pub mod Standing
 pub mod Folding
 pub mod Survey

@@ -1,32 +1,27 @@
 -- What a survey of a graph says of it.
 --
---   Tells p s       the survey s tells the place p where the search ended: parents, discovery numbers, the order of leaving
---   Told s art t    the survey t tells what the state s keeps, with the articulation tables art
+--   Tells p s       the survey s tells the place p where the search ended: parents, discovery numbers, the tables discovered
+--                   earlier, and the order of leaving
 --   SurveysAmong U J r s
 --                   s is the survey of the tables U with the joins J from table r: it tells the search from r, the tables not
 --                   reached, and, where all are reached, the articulation tables
 --   Surveys m r s   s is the survey of the graph m from table r
-use Rattle.std.specs.Prelude.{◌≡◌, ℕ, Bool, not, ◌&&◌, take, ◌≢◌, slice_index}
+use Rattle.std.specs.Prelude.{◌≡◌, ℕ, Bool, not, ◌&&◌, ◌≢◌}
 use Rattle.theory.specs.Graph.{Graph, is_table, joined}
-use Rattle.disassembly.specs.Search.{discovery, Place, searched}
+use Rattle.disassembly.specs.Search.{discovery, has, Place, searched}
 use Rattle.disassembly.specs.Reach.{reached, separates}
 use Rattle.disassembly.specs.Disassembly.{reversed}
 use Rattle.bits.specs.Rows.{bit}
-use Rattle.traversal.specs.declared.state.State.{State}
+use Rattle.traversal.specs.Discoveries.{parent_in, number_in, earlier_in}
+use Rattle.traversal.specs.Standing.{before}
 use Rattle.traversal.specs.declared.survey.Survey.{Survey}
 
 pub record Tells (p : Place) (s : Survey) : Type 0 where
-  pub parents : (x : ℕ) → slice_index s.parents x ≡ p.parent x
-  pub numbers : (x : ℕ) → slice_index s.numbers x ≡ discovery p.seen x
-  pub left : take s.count s.left ≡ reversed p.left
-
-pub record Told (s : State) (art : ℕ) (t : Survey) : Type 0 where
-  pub parents : t.parents ≡ s.parents
-  pub numbers : t.numbers ≡ s.numbers
-  pub left : t.left ≡ s.left
-  pub count : t.count ≡ s.count
-  pub unreached : t.unreached ≡ s.fresh
-  pub articulations : t.articulations ≡ art
+  pub parents : (x : ℕ) → parent_in s.found x ≡ p.parent x
+  pub numbers : (x : ℕ) → number_in s.found x ≡ discovery p.seen x
+  -- the tables discovered before it
+  pub earlier : (x y : ℕ) → bit (earlier_in s.found x) y ≡ has (before p.seen x) y
+  pub left : s.left.items ≡ reversed p.left
 
 pub record SurveysAmong (U : ℕ → Bool) (J : ℕ → ℕ → Bool) (r : ℕ) (s : Survey) : Type 0 where
   pub tells : Tells (searched U J r) s
@@ -34,8 +29,5 @@ pub record SurveysAmong (U : ℕ → Bool) (J : ℕ → ℕ → Bool) (r : ℕ) 
   pub articulations : s.unreached ≡ 0 → (x : ℕ) → bit s.articulations x ≡ separates U J x
   pub otherwise : (s.unreached ≢ 0) → s.articulations ≡ 0
 
-pub record Surveys (m : Graph) (r : ℕ) (s : Survey) : Type 0 where
-  pub tells : Tells (searched (is_table m) (joined m) r) s
-  pub unreached : (x : ℕ) → bit s.unreached x ≡ (is_table m x && not (reached (is_table m) (joined m) r x))
-  pub articulations : s.unreached ≡ 0 → (x : ℕ) → bit s.articulations x ≡ separates (is_table m) (joined m) x
-  pub otherwise : (s.unreached ≢ 0) → s.articulations ≡ 0
+abbrev pub Surveys : Graph → ℕ → Survey → Type 0
+Surveys m r s = SurveysAmong (is_table m) (joined m) r s

@@ -1,62 +1,55 @@
 //! The articulation tables of a graph, all of whose tables a search discovered: by low points, in time linear in its tables.
-ghost use Rattle.std.specs.Prelude.{◌≡◌, ℕ, ◌<◌, Bool, slice_index};
+ghost use Rattle.std.specs.Prelude.{◌≡◌, ℕ, ◌<◌, Bool};
 ghost use Rattle.disassembly.specs.Reach.{separates};
 ghost use Rattle.bits.specs.Rows.{bit};
 ghost use Rattle.traversal.specs.Standing.{row_joins};
-ghost use Rattle.traversal.specs.Folding.{parent_of, cuts_off_by, handed_on, folded, Whole, SomeWhole};
+ghost use Rattle.traversal.specs.Folding.{parent_of, cuts_off_by, folded, Whole, SomeWhole};
 
 use super::lows::Lows;
-use super::state::State;
+use super::survey::Survey;
 
 impl Lows {
     /// Whether `v`, which has parent `f`, makes that an articulation table: another child of the start than the first, or a
     /// child from which, or from below which, no join leads to a table discovered before the parent.
-    fn cuts_off(&self, state: &State, start: u32, v: u32, f: u32) -> bool
-        requires { (v < 64) × ((f < 64) × (f ≡ parent_of state.now v)) }
-        ensures { result ≡ cuts_off_by state.now start self.now v }
+    fn cuts_off(&self, survey: &Survey, v: u32, f: u32) -> bool
+        requires { (v < 64) × (f ≡ parent_of survey.now v) }
+        ensures { result ≡ cuts_off_by survey.now self.now v }
     {
-        if f == start {
-            state.numbers[v as usize] != 1
+        if f == self.start {
+            survey.found[v as usize].number != 1
         } else {
-            self.touched[v as usize] & state.earlier[f as usize] == 0
+            self.touched[v as usize] & survey.found[f as usize].earlier == 0
         }
     }
 
-    /// Hands on to `f` what its child `v` touches.
-    fn hand_on(&mut self, v: u32, f: u32, cut: bool)
-        requires { (v < 64) × (f < 64) }
-        ensures { self.new ≡ handed_on self.old v f cut }
+    /// Goes through the table `v`, after those that were left before it, and hands on to its parent what it touches.
+    fn fold(&mut self, survey: &Survey, v: u32)
+        requires { v < 64 }
+        ensures { self.new ≡ folded survey.now self.old v }
     {
-        self.touched[f as usize] |= self.touched[v as usize];
-        if cut {
+        let f = survey.found[v as usize].parent;
+        if self.cuts_off(survey, v, f) {
             self.cuts |= 1u64 << f;
         }
-    }
-
-    /// Goes through the table that was left as the `k`-th.
-    fn fold(&mut self, state: &State, start: u32, k: usize)
-        requires { (k < 64) × ((((x : ℕ) → slice_index state.now.left x < 64)) × (((x : ℕ) → slice_index state.now.parents x < 64))) }
-        ensures { self.new ≡ folded state.now start self.old k }
-    {
-        let v = state.left[k];
-        let f = state.parents[v as usize];
-        let cut = self.cuts_off(state, start, v, f);
-        self.hand_on(v, f, cut);
+        self.touched[f as usize] |= self.touched[v as usize];
     }
 }
 
 /// The articulation tables, where the search discovered all tables. The start, which is left last, has no parent.
-pub(super) fn articulations(rows: &[u64; 64], state: &State, start: u32) -> u64
-    requires { SomeWhole rows.now start state.now }
-    ensures { (U : ℕ → Bool) → Whole U (row_joins rows.now) start state.now → (x : ℕ) → bit result x ≡ separates U (row_joins rows.now) x }
+pub(super) fn articulations(rows: &[u64; 64], survey: &Survey) -> u64
+    requires { SomeWhole rows.now survey.now }
+    ensures { (U : ℕ → Bool) (r : ℕ) → Whole U (row_joins rows.now) r survey.now
+        → (x : ℕ) → bit result x ≡ separates U (row_joins rows.now) x }
 {
+    let left = survey.left.as_slice();
+    let last = left.len() - 1;
     let mut lows = Lows {
+        start: left[last],
         touched: *rows,
         cuts: 0,
     };
-    let last = state.count - 1;
-    for k in 0..last {
-        lows.fold(state, start, k);
+    for &v in &left[..last] {
+        lows.fold(survey, v);
     }
     lows.cuts
 }

@@ -3,8 +3,9 @@
 #![tactic(auto)]
 
 mod articulations;
+pub mod discovery;
 mod lows;
 mod search;
-mod state;
 pub mod survey;
 pub mod surveys;
+mod walk;

@@ -1,8 +1,19 @@
 //! What stands against a build request.
 ghost use Rattle.std.specs.Prelude.{◌≡◌, ◌<◌};
-ghost use Rattle.verdicts.specs.Judge.{masks_judged};
+ghost use Rattle.verdicts.specs.Judge.{lowest_in, masks_judged};
 
 use refusals::build::BuildFault;
+
+/// The lowest table of a set that is kept as bits, or none.
+fn lowest(mask: u64) -> Option<u32>
+    ensures { result ≡ lowest_in mask }
+{
+    if mask == 0 {
+        None
+    } else {
+        Some(mask.trailing_zeros())
+    }
+}
 
 /// 6, 7, 8 and 9, in this order: how many tables there are, which of them are not reached and which are articulation tables, as
 /// bits, and how many records are needed and lent.
@@ -20,12 +31,10 @@ pub fn judge(
     if tables < 3 {
         return Err(BuildFault::TooSmall);
     }
-    if unreached != 0 {
-        let table = unreached.trailing_zeros();
+    if let Some(table) = lowest(unreached) {
         return Err(BuildFault::Unreached { table });
     }
-    if articulations != 0 {
-        let table = articulations.trailing_zeros();
+    if let Some(table) = lowest(articulations) {
         return Err(BuildFault::Articulation { table });
     }
     if room < needed {

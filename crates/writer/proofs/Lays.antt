@@ -1,21 +1,23 @@
--- Bytes laid one piece after another are laid at once.
-use mathlib.Core.Path.{◌≡◌, ap, ◌∙◌}
-use mathlib.Core.List.{List, [], ◌∷◌, ◌++◌}
-use Prim.Native.Nat.{ℕ, ◌+◌}
-use native.Mathlib.Omega.{arith}
-use lib.ListN.{length, set, length-append}
+-- Bytes laid over a buffer.
+--
+--   laid_two      bytes laid one piece after another are laid at once
+--   put_more      one element put in, and more laid after it
+--   laid_parts    what was there before, the bytes laid, and what was there after them
+use Rattle.std.proofs.Common.{◌≡◌, ℕ, ◌+◌, ◌<◌, ◌≤◌, List, [], ◌∷◌, ◌++◌, length, take, drop, set, sym, ap, ◌∙◌, append_assoc, arith, length-set, take-append-drop}
+use Rattle.std.proofs.lemmas.List.{take_more_set, drop-set-lt}
 use Rattle.writer.specs.Laid.{laid}
 
 pub laid_two : (xs : List ℕ) (at i : ℕ) (a b : List ℕ) → i ≡ at + length a → laid (laid xs at a) i b ≡ laid xs at (a ++ b)
 laid_two xs at i [] b e = ap (λ n. laid xs n b) (e ∙ omega arith)
 laid_two xs at i (y ∷ a) b e = laid_two (set xs at y) (at + 1) i a b (e ∙ omega arith)
 
--- a letter, three fields and a line feed
-pub laid_pieces : (xs : List ℕ) (at c : ℕ) (x y z : List ℕ) → length x ≡ 5 → length y ≡ 5 → length z ≡ 5
-    → set (laid (laid (laid (set xs at c) (at + 1) x) (at + 6) y) (at + 11) z) (at + 16) 10 ≡ laid xs at (c ∷ ((x ++ (y ++ z)) ++ 10 ∷ []))
-laid_pieces xs at c x y z hx hy hz =
-    let one = set xs at c in
-    let two = laid_two one (at + 1) (at + 6) x y (omega arith) in
-    let all : laid (laid (laid one (at + 1) x) (at + 6) y) (at + 11) z ≡ laid one (at + 1) (x ++ (y ++ z)) =
-    laid_two (laid one (at + 1) x) (at + 6) (at + 11) y z (omega arith) ∙ laid_two one (at + 1) (at + 6) x (y ++ z) (omega arith) in
-    ap (λ l. set l (at + 16) 10) all ∙ laid_two one (at + 1) (at + 16) (x ++ (y ++ z)) (10 ∷ []) (simp (length-append) (omega arith))
+pub put_more : {X : Type 0} (xs : List X) (at n : ℕ) (y : X) (ys : List X) → at < length xs → at < n
+    → take (at + 1) (set xs at y) ++ (ys ++ drop n (set xs at y)) ≡ take at xs ++ y ∷ (ys ++ drop n xs)
+put_more xs at n y ys h k = rw (take_more_set xs at y h, drop-set-lt n xs at y k, append_assoc)
+
+pub laid_parts : (xs : List ℕ) (at : ℕ) (ys : List ℕ) → at + length ys ≤ length xs → laid xs at ys ≡ take at xs ++ (ys ++ drop (at + length ys) xs)
+laid_parts xs at [] h = sym (take-append-drop at xs) ∙ ap (λ n. take at xs ++ drop n xs) (omega arith)
+laid_parts xs at (y ∷ ys) h =
+    laid_parts (set xs at y) (at + 1) ys (simp length-set (omega arith))
+    ∙ put_more xs at (at + 1 + length ys) y ys (omega arith) (omega arith)
+    ∙ ap (λ n. take at xs ++ y ∷ (ys ++ drop n xs)) (omega arith)

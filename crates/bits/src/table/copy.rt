@@ -1,28 +1,40 @@
-//! A table of bits as a whole: made from any readable graph by its questions alone, and given out.
-ghost use Rattle.std.specs.Prelude.{◌≡◌, ◌+◌, ◌<◌};
-ghost use Rattle.theory.specs.Graph.{table_count, size};
-ghost use Rattle.bits.specs.Rows.{rows_graph};
+//! A table of bits as a whole: made without joins, or from any readable graph by its questions alone, and given out.
+//! stays: the graph is the caller's, and its tables are asked for one by one, so both are arguments.
+ghost use Rattle.std.specs.Prelude.{◌≡◌, ℕ, ◌+◌, ◌<◌};
+ghost use Rattle.theory.specs.Graph.{table_count, is_table, size, no_joins, clamped};
+ghost use Rattle.bits.specs.Rows.{bit};
+ghost use Rattle.bits.specs.Table.{graph_of};
 ghost use Rattle.bits.specs.Copy.{copied};
 
 use super::BitTable;
 use graph::graph::ReadableGraph;
+use graph::neighbours::neighbours_of;
 
 /// Puts in the joins of `v` with the tables above it.
 fn copy_row<G: ReadableGraph>(graph: &G, v: u32, copy: &mut BitTable)
-    requires { (v < table_count (G.meaning graph.now)) × (rows_graph copy.old.count copy.old.rows ≡ copied (G.meaning graph.now) v (v + 1)) }
-    ensures { rows_graph copy.new.count copy.new.rows ≡ copied (G.meaning graph.now) (v + 1) (v + 2) }
+    requires { (v < table_count (G.meaning graph.now)) × (graph_of copy.old ≡ copied (G.meaning graph.now) v (v + 1)) }
+    ensures { graph_of copy.new ≡ copied (G.meaning graph.now) (v + 1) (v + 2) }
 {
-    let mut bound = v + 1;
-    while let Some(w) = graph.next_neighbour(v, bound) {
+    for w in neighbours_of(graph, v, v + 1) {
         copy.put(v, w);
-        bound = w + 1;
     }
 }
 
 impl BitTable {
+    /// A graph without joins, of as many tables as asked for, but at least 1 and at most 64.
+    pub fn new(tables: u32) -> BitTable
+        ensures { graph_of result ≡ no_joins (clamped tables) }
+    {
+        BitTable {
+            count: tables.clamp(1, 64),
+            rows: [0; 64],
+            joins: 0,
+        }
+    }
+
     /// A table of bits with the tables and the joins of a graph. Each join is asked for once.
     pub fn copy_of<G: ReadableGraph>(graph: &G) -> BitTable
-        ensures { rows_graph result.count result.rows ≡ G.meaning graph.now }
+        ensures { graph_of result ≡ G.meaning graph.now }
     {
         let tables = graph.tables();
         let mut copy = BitTable::new(tables);
@@ -30,6 +42,13 @@ impl BitTable {
             copy_row(graph, v, &mut copy);
         }
         copy
+    }
+
+    /// All of its tables, as bits.
+    pub fn all_tables(&self) -> u64
+        ensures { (x : ℕ) → bit result x ≡ is_table (graph_of self.now) x }
+    {
+        u64::MAX >> (64 - self.count)
     }
 
     /// The rows: bit `b` of row `a` is set where tables `a` and `b` are joined.
@@ -41,7 +60,7 @@ impl BitTable {
 
     /// The number of joins.
     pub fn joins(&self) -> u32
-        ensures { result ≡ size (rows_graph self.now.count self.now.rows) }
+        ensures { result ≡ size (graph_of self.now) }
     {
         self.joins
     }

@@ -1,19 +1,17 @@
-use Rattle.std.proofs.Common.{◌≡◌, ℕ, ◌-◌, ◌≤◌, min, List, length, take, ap, ◌∙◌, arith}
-use Rattle.programs.specs.Replay.{looked_at}
-use Rattle.assembler.specs.Assemble.{query_in, assemble_told, steps_left, listed}
+use Rattle.std.proofs.Common.{◌≡◌, ◌≤◌, min, length, take, Err, ap, ◌∙◌, arith}
+use Rattle.writer.specs.Laid.{laid}
+use Rattle.programs.specs.Refusal.{refusal_shown}
+use Rattle.programs.proofs.Prints.{refusal_near}
+use Rattle.assembler.specs.Assemble.{query_in, assemble_told, steps_left, listed, shown}
 use Rattle.assembler.proofs.Whole.{steps_within, list_able, list_fits, done_listed, done_refused}
 use Rattle.assembler.proofs.assemble.assemble_text.Goals as goal
 
--- `&text[0..len]` as the checker reads it, at the lesser of three lengths
-part-is : (text : List ℕ) (len k l : ℕ) → k ≡ min len (length text) → l ≡ min k 36465 → take (l - 0) text ≡ looked_at text len
-part-is text len k l e f = ap (λ n. take n text) (omega arith)
-
-pub slice_bounds-lay_list-end : goal.slice_bounds-lay_list-end
-slice_bounds-lay_list-end c =
+pub shared_ref_as_front-lay_list : goal.shared_ref_as_front-lay_list
+shared_ref_as_front-lay_list c =
     let text = c.args.text.now in
     let steps = c.args.steps.now in
     let marks = c.args.marks.now in
-    let part = part-is text c.args.len c.min.result c.min-len.result c.min.ensures c.min-len.ensures in
+    let part = ap (λ n. take n text) (c.min-len.ensures ∙ ap (λ n. min n 36465) c.min.ensures) in
     let within : c.in-Ok.list.steps ≤ length c.assembled.new.steps =
     steps_within text c.args.len steps marks c.in-Ok.list c.assembled.new.steps
     (c.in-Ok.ensures.answer ∙ ap (λ p. listed (assemble_told p steps marks)) part) (c.assembled.ensures.filled ∙ ap (λ p. steps_left p steps marks) part) in
@@ -25,7 +23,7 @@ lay_list-requires c =
     let text = c.args.text.now in
     let steps = c.args.steps.now in
     let marks = c.args.marks.now in
-    let part = part-is text c.args.len c.min.result c.min-len.result c.min.ensures c.min-len.ensures in
+    let part = ap (λ n. take n text) (c.min-len.ensures ∙ ap (λ n. min n 36465) c.min.ensures) in
     record {
       able = list_able text c.args.len steps marks c.in-Ok.list c.assembled.new.steps
           (c.in-Ok.ensures.answer ∙ ap (λ p. listed (assemble_told p steps marks)) part) (c.assembled.ensures.filled ∙ ap (λ p. steps_left p steps marks) part);
@@ -38,7 +36,7 @@ returns-in-Ok c =
     let text = c.args.text.now in
     let steps = c.args.steps.now in
     let marks = c.args.marks.now in
-    let part = part-is text c.args.len c.min.result c.min-len.result c.min.ensures c.min-len.ensures in
+    let part = ap (λ n. take n text) (c.min-len.ensures ∙ ap (λ n. min n 36465) c.min.ensures) in
     done_listed text c.args.len steps marks c.in-Ok.list c.assembled.new.steps
     (c.in-Ok.ensures.answer ∙ ap (λ p. listed (assemble_told p steps marks)) part) (c.assembled.ensures.filled ∙ ap (λ p. steps_left p steps marks) part)
     c.assembled.new.marks c.lay_list.result c.lay_list.new.text (c.assembled.ensures.marked ∙ ap (λ p. (query_in p marks).marks) part)
@@ -49,9 +47,11 @@ returns-in-Err c =
     let text = c.args.text.now in
     let steps = c.args.steps.now in
     let marks = c.args.marks.now in
-    let part = part-is text c.args.len c.min.result c.min-len.result c.min.ensures c.min-len.ensures in
-    done_refused text c.args.len steps marks c.in-Err.fault
+    let part = ap (λ n. take n text) (c.min-len.ensures ∙ ap (λ n. min n 36465) c.min.ensures) in
+    let f = c.in-Err.fault in
+    let near : refusal_shown (length text) f ≡ shown (length text) (Err f) = refusal_near f (length text) c.in-Err.ensures.near in
+    done_refused text c.args.len steps marks f
     (c.in-Err.ensures.answer ∙ ap (λ p. listed (assemble_told p steps marks)) part)
     c.assembled.new.steps c.assembled.new.marks c.lay_refusal.result c.lay_refusal.new.text
     (c.assembled.ensures.filled ∙ ap (λ p. steps_left p steps marks) part) (c.assembled.ensures.marked ∙ ap (λ p. (query_in p marks).marks) part)
-    c.lay_refusal.ensures.count c.lay_refusal.ensures.laid (omega arith) (omega arith) c.in-Err.ensures.near
+    (c.lay_refusal.ensures.count ∙ ap length near) (c.lay_refusal.ensures.laid ∙ ap (laid text 0) near) (omega arith) (omega arith) c.in-Err.ensures.near

@@ -10,23 +10,21 @@ returns-in_err-judge_edge g c =
     let m = g.G.ReadableGraph.meaning c.args.graph.now in
     let n = g.G.EditableGraph.limit c.args.graph.now in
     let p = err_from_is_err_and c.from_residual.result c.from_residual.ensures.1 in
-    let both = edge_judged n c.args.step m (flagged c.args.used.now) c.args.v c.args.w c.tables.result c.judge_edge.result
-    c.tables.ensures c.judge_edge.ensures c.in_err-judge_edge.field-0.0 p.0 c.from_residual.result c.in_err-judge_edge.was p.1 p.2 in
+    let both = edge_judged n c.args.step m (flagged c.args.used.now.flags) c.args.v c.args.w c.judge_edge.result c.judge_edge.ensures c.in_err-judge_edge.field-0.0 p.0 c.from_residual.result c.in_err-judge_edge.was p.1 p.2 in
     record { answer = both.0; meant = both.1; same = refl }
 
-pub returns-in_err-at_step : goal.returns-in_err-at_step
-returns-in_err-at_step g c =
+pub returns-in_err-at_place : goal.returns-in_err-at_place
+returns-in_err-at_place g c =
     let m = g.G.ReadableGraph.meaning c.args.graph.now in
     let n = g.G.EditableGraph.limit c.args.graph.now in
     let k = c.args.step in
-    let whole = edge_carried n k m (flagged c.args.used.now) c.args.v c.args.w c.tables.result c.judge_edge.result
-    c.tables.ensures c.judge_edge.ensures c.in_ok-judge_edge.was in
-    let p = err_from_is_err_and c.from_residual-in_err-at_step.result c.from_residual-in_err-at_step.ensures.1 in
-    let both = edge_refused n k m (g.G.ReadableGraph.meaning c.join.new.self) (flagged c.args.used.now) c.args.v c.args.w
-    c.join.result c.in_err-at_step.field-0.0.fault c.from_residual-in_err-at_step.result whole c.join.ensures.answer c.join.ensures.meant
-    (refused k c.join.result c.at_step.result c.at_step.ensures c.in_err-at_step.field-0.0 c.in_err-at_step.was)
-    (passed_on k c.join.result c.at_step.result c.at_step.ensures c.in_err-at_step.field-0.0 p.0 c.from_residual-in_err-at_step.result
-    c.in_err-at_step.was p.1 p.2) in
+    let whole = edge_carried n k m (flagged c.args.used.now.flags) c.args.v c.args.w c.judge_edge.result c.judge_edge.ensures c.in_ok-judge_edge.was in
+    let p = err_from_is_err_and c.from_residual-in_err-at_place.result c.from_residual-in_err-at_place.ensures.1 in
+    let both = edge_refused n k m (g.G.ReadableGraph.meaning c.join.new.self) (flagged c.args.used.now.flags) c.args.v c.args.w
+    c.join.result c.in_err-at_place.field-0.0.fault c.from_residual-in_err-at_place.result whole c.join.ensures.answer c.join.ensures.meant
+    (refused k c.join.result c.at_place.result c.at_place.ensures c.in_err-at_place.field-0.0 c.in_err-at_place.was)
+    (passed_on k c.join.result c.at_place.result c.at_place.ensures c.in_err-at_place.field-0.0 p.0 c.from_residual-in_err-at_place.result
+    c.in_err-at_place.was p.1 p.2) in
     record { answer = both.0; meant = both.1; same = c.join.ensures.same }
 
 pub returns : goal.returns
@@ -34,9 +32,8 @@ returns g c =
     let m = g.G.ReadableGraph.meaning c.args.graph.now in
     let n = g.G.EditableGraph.limit c.args.graph.now in
     let k = c.args.step in
-    let whole = edge_carried n k m (flagged c.args.used.now) c.args.v c.args.w c.tables.result c.judge_edge.result
-    c.tables.ensures c.judge_edge.ensures c.in_ok-judge_edge.was in
-    let both = edge_taken n k m (g.G.ReadableGraph.meaning c.join.new.self) (flagged c.args.used.now) c.args.v c.args.w
+    let whole = edge_carried n k m (flagged c.args.used.now.flags) c.args.v c.args.w c.judge_edge.result c.judge_edge.ensures c.in_ok-judge_edge.was in
+    let both = edge_taken n k m (g.G.ReadableGraph.meaning c.join.new.self) (flagged c.args.used.now.flags) c.args.v c.args.w
     c.join.result whole c.join.ensures.answer c.join.ensures.meant
-    (passed k c.join.result c.at_step.result c.at_step.ensures c.in_ok-at_step.field-0 c.in_ok-at_step.was) in
+    (passed k c.join.result c.at_place.result c.at_place.ensures c.in_ok-at_place.field-0 c.in_ok-at_place.was) in
     record { answer = both.0; meant = both.1; same = c.join.ensures.same }

@@ -1,85 +1,47 @@
-use Rattle.std.proofs.Common.{◌-◌, [], ◌∷◌, ◌++◌, length, get_or, refl, ap, ◌∙◌, arith, length-set}
-use lib.Bits.{bit_and, bit_xor}
-use lib.Count.{count_trailing_zeros}
+use Rattle.std.proofs.Common.{◌≡◌, [], ◌∷◌, ◌++◌, sym, ap, ◌∙◌, append_assoc, arith, length-set}
+use Rattle.std.proofs.lemmas.List.{append-nil}
 use Rattle.theory.specs.declared.step.Step.{Step}
-use Rattle.bits.specs.Rows.{bit}
 use Rattle.disassembly.specs.Disassembly.{edges}
-use Rattle.notes.specs.Notes.{joins_in, tables_of, poured}
-use Rattle.notes.proofs.Masks.{shl, no_table, lowest_less, lowest_taken}
-use Rattle.notes.proofs.Poured.{starts, goes_as, goes_on, room, ends}
-use Rattle.notes.proofs.Strip.{so_far_start, so_far_on, among_on, so_far_end, notes_first}
+use Rattle.notes.specs.Masks.{tables_of}
+use Rattle.notes.specs.Notes.{joins_in}
+use Rattle.notes.proofs.Masks.{first_below}
+use Rattle.notes.proofs.Poured.{lays_as, lays_more}
+use Rattle.notes.proofs.Strip.{so_far_on, so_far_end, edges_more}
 use Rattle.notes.proofs.notes.strip_others.Goals as goal
 
-pub loop-rest-init : goal.loop-rest-init
-loop-rest-init c =
-    let all = edges c.args.u (tables_of c.args.tables) in (
-      omega arith,
-      c.told-rows,
-      (λ x h. h),
-      so_far_start c.args.u c.args.tables (joins_in c.args.rows.now),
-      starts c.args.notes.now.slots.now c.args.notes.now.len all all refl,
-      refl,
-    )
+pub bounds-rows-v : goal.bounds-rows-v
+bounds-rows-v c = first_below c.loop-v.v-iterator.0 c.in-Some.v (tables_of c.next.new.self.0) c.in-Some.ensures.steps
 
-pub loop-rest-smaller : goal.loop-rest-smaller
-loop-rest-smaller c =
-    let e = ap length (lowest_taken c.loop-rest.rest c.loop-rest.invariant.0 c.loop-rest-test.true) in
-    omega (arith, e)
+pub bounds-rows-v-in-loop-v : goal.bounds-rows-v-in-loop-v
+bounds-rows-v-in-loop-v c = first_below c.loop-v.v-iterator.0 c.in-Some.v (tables_of c.next.new.self.0) c.in-Some.ensures.steps
 
-pub lay-requires : goal.lay-requires
-lay-requires c =
-    let m = c.loop-rest.rest in
+pub loop-v-preserved : goal.loop-v-preserved
+loop-v-preserved c =
+    let rows = c.loop-v.rows in
     let u = c.args.u in
-    let slots = c.loop-rest.notes.slots.now in
-    let k = c.loop-rest.notes.len in
-    let first = c.args.notes.now.slots.now in
-    let start = c.args.notes.now.len in
-    let all = edges u (tables_of c.args.tables) in
-    let l = edges u (count_trailing_zeros 64 m ∷ []) in
-    let r = edges u (tables_of (bit_and m (m - 1))) in
-    room slots k l r first start all
-    (goes_as slots k (edges u (tables_of m)) (l ++ r) first start all (notes_first u m c.loop-rest.invariant.0 c.loop-rest-test.true) c.loop-rest.invariant.4)
-    c.requires.room
-
-pub loop-rest-preserved : goal.loop-rest-preserved
-loop-rest-preserved c =
-    let m = c.loop-rest.rest in
-    let rows = c.loop-rest.rows in
-    let S = bit c.args.tables in
-    let J = joins_in c.args.rows.now in
-    let u = c.args.u in
-    let t = count_trailing_zeros 64 m in
-    let slots = c.loop-rest.notes.slots.now in
-    let k = c.loop-rest.notes.len in
-    let first = c.args.notes.now.slots.now in
-    let start = c.args.notes.now.len in
-    let all = edges u (tables_of c.args.tables) in
-    let l = edges u (t ∷ []) in
-    let r = edges u (tables_of (bit_and m (m - 1))) in
-    let low = c.loop-rest.invariant.0 in
-    let some = c.loop-rest-test.true in
-    let long = c.loop-rest.invariant.1 in
-    let among = c.loop-rest.invariant.2 in
-    let so_far = c.loop-rest.invariant.3 in (
-      lowest_less m low some,
-      length-set rows t (bit_xor (get_or rows t 0) (shl u)) ∙ long,
-      among_on S J rows u m c.requires.joined c.requires.table long low some among so_far,
-      so_far_on S J rows u m c.requires.joined c.requires.table long low some among so_far,
-      goes_on slots c.lay.new.notes.slots.now k c.lay.new.notes.len l r first start all
-          (goes_as slots k (edges u (tables_of m)) (l ++ r) first start all (notes_first u m low some) c.loop-rest.invariant.4)
-          (c.lay.ensures.laid ∙ ap (λ (x : Step). poured slots k (x ∷ [])) c.edge.ensures) c.lay.ensures.height,
-      c.lay.ensures.lender ∙ c.loop-rest.invariant.5,
-    )
+    let v = c.in-Some.v in
+    let r = c.without_table.result in
+    let done = c.loop-v.yielded in
+    let left = tables_of c.next.new.self.0 in
+    let long = c.loop-v.invariant.long in
+    let below = first_below c.loop-v.v-iterator.0 v left c.in-Some.ensures.steps in
+    record {
+      long = length-set rows v r ∙ long;
+      whole = append_assoc done (v ∷ []) left ∙ ap (λ l. done ++ l) (sym c.in-Some.ensures.steps) ∙ c.loop-v.invariant.whole;
+      joins = so_far_on rows u v r done (joins_in c.args.rows.now) (omega (arith, long, below)) c.without_table.ensures c.loop-v.invariant.joins;
+      notes = lays_as c.args.notes.now c.lay.new.notes (edges u done ++ (c.edge.result ∷ [])) (edges u (done ++ (v ∷ [])))
+          (ap (λ (x : Step). edges u done ++ (x ∷ [])) c.edge.ensures ∙ edges_more u v done)
+          (lays_more c.args.notes.now c.loop-v.notes c.lay.new.notes (edges u done) (c.edge.result ∷ []) c.loop-v.invariant.notes c.lay.ensures);
+    }
 
 pub returns : goal.returns
 returns c =
     let u = c.args.u in
-    let done = ends c.loop-rest.notes.slots.now c.loop-rest.notes.len (edges u (tables_of c.loop-rest.rest))
-    c.args.notes.now.slots.now c.args.notes.now.len (edges u (tables_of c.args.tables))
-    c.loop-rest.invariant.4 (ap (edges u) (no_table c.loop-rest.rest c.loop-rest-test.false)) in
+    let done = c.loop-v.yielded in
+    let all : done ≡ tables_of c.args.tables =
+    sym (append-nil done) ∙ ap (λ l. done ++ l) (sym c.in-None.ensures.steps.0) ∙ c.loop-v.invariant.whole in
     record {
-      joins = so_far_end (bit c.args.tables) (joins_in c.args.rows.now) (joins_in c.loop-rest.rows) u c.loop-rest.rest c.loop-rest-test.false c.loop-rest.invariant.3;
-      laid = done.0;
-      height = done.1;
-      lender = c.loop-rest.invariant.5;
+      joins = so_far_end u c.args.tables done (joins_in c.args.rows.now) (joins_in c.loop-v.rows) (omega arith) all c.loop-v.invariant.joins;
+      notes = lays_as c.args.notes.now c.loop-v.notes (edges u done) (edges u (tables_of c.args.tables)) (ap (edges u) all) c.loop-v.invariant.notes;
+      long = c.loop-v.invariant.long;
     }

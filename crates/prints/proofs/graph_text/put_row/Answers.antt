@@ -1,44 +1,42 @@
--- Each turn finds the first join of what is left of the row, and lays its line.
-use Rattle.std.proofs.Common.{◌≡◌, suc, ◌+◌, ◌<◌, ◌≤◌, [], length, sym, ap, ◌∙◌, arith}
+-- Each turn lays the line of the first join of what is left of the row.
+use Rattle.std.proofs.Common.{◌+◌, ◌≤◌, length, ap, ◌∙◌, sym, arith}
 use Rattle.writer.specs.Laid.{laid}
-use Rattle.theory.specs.Graph.{table_count}
-use Rattle.prints.proofs.Rows.{rest, lines, other_small, row_next, row_over, row_on}
+use Rattle.graph.specs.Neighbours.{neighbours_from}
+use Rattle.prints.specs.GraphText.{join_lines}
+use Rattle.prints.proofs.Rows.{rest, row_turn, row_over, row_on}
 use Rattle.prints.proofs.graph_text.put_row.Goals as goal
 
-pub overflow_add-bound-in-Some : goal.overflow_add-bound-in-Some
-overflow_add-bound-in-Some g c =
-    let m = g.G.ReadableGraph.meaning c.args.graph.now in
-    let s = g.G.ReadableGraph.simple c.args.graph.now in
-    let few : table_count m ≤ 64 = s.few in
-    let small : c.in-Some.w < table_count m = other_small m s c.args.v c.in-Some.w c.in-Some.ensures.holds in
-    omega arith
-
-pub loop-w-smaller : goal.loop-w-smaller
-loop-w-smaller g c =
-    let m = g.G.ReadableGraph.meaning c.args.graph.now in
-    let s = g.G.ReadableGraph.simple c.args.graph.now in
-    let above : c.loop-w.bound ≤ c.in-Some.w = c.in-Some.ensures.above in
-    let small : c.in-Some.w < table_count m = other_small m s c.args.v c.in-Some.w c.in-Some.ensures.holds in
-    omega arith
+pub overflow_add-at : goal.overflow_add-at
+overflow_add-at g c =
+    let m = g.G.ReadableGraph.meaning in
+    let s = g.met.G.ReadableGraph.simple c.args.graph.now in
+    let next = c.next.new.self in
+    let turn = row_turn (m c.args.graph.now) s c.args.v c.loop-w.invariant.0 c.in-Some.w _ (neighbours_from (m next.graph.now) next.table next.bound) c.loop-w.invariant.1 c.in-Some.ensures.steps in
+    omega (arith, c.loop-w.invariant.3, ap length turn.2)
 
 pub loop-w-preserved : goal.loop-w-preserved
 loop-w-preserved g c =
-    let m = g.G.ReadableGraph.meaning c.args.graph.now in
-    let s = g.G.ReadableGraph.simple c.args.graph.now in
+    let m = g.G.ReadableGraph.meaning in
+    let s = g.met.G.ReadableGraph.simple c.args.graph.now in
     let v = c.args.v in
+    let b = c.loop-w.invariant.0 in
     let w = c.in-Some.w in
-    let low = c.in-Some.ensures in
-    let whole = laid c.args.out.now c.args.at (lines (rest m v (v + 1))) in
-    let here : length (rest m v c.loop-w.bound) ≡ suc (length (rest m v (w + 1))) = ap length (row_next m s v c.loop-w.bound w low) in
-    let room : c.loop-w.at + 17 ≤ length c.loop-w.out = omega arith in
-    (row_on m s v c.loop-w.bound w low c.loop-w.out c.put_last_two.new.out whole c.loop-w.at room c.put_last_two.ensures c.loop-w.invariant.0, omega arith)
+    let next = c.next.new.self in
+    let turn = row_turn (m c.args.graph.now) s v b w _ (neighbours_from (m next.graph.now) next.table next.bound) c.loop-w.invariant.1 c.in-Some.ensures.steps in
+    let whole = laid c.args.out.now c.args.at (join_lines (rest (m c.args.graph.now) v (v + 1))) in
+    let room : c.loop-w.at + 17 ≤ length c.loop-w.out = omega (arith, c.loop-w.invariant.3, ap length turn.2) in (
+      w + 1,
+      turn.1,
+      row_on (m c.args.graph.now) s v b w turn.0 c.loop-w.out c.put_line.new.out whole c.loop-w.at room c.put_line.ensures c.loop-w.invariant.2,
+      omega (arith, c.loop-w.invariant.3, ap length turn.2),
+    )
 
 pub returns : goal.returns
 returns g c =
     let m = g.G.ReadableGraph.meaning c.args.graph.now in
-    let over : rest m c.args.v c.loop-w.bound ≡ [] = row_over m c.args.v c.loop-w.bound c.in_default.ensures in
-    let here : length (rest m c.args.v c.loop-w.bound) ≡ 0 = ap length over in
+    let s = g.met.G.ReadableGraph.simple c.args.graph.now in
+    let over = row_over m s c.args.v c.loop-w.invariant.0 _ c.loop-w.invariant.1 c.in-None.ensures.steps.0 in
     record {
-      next = omega arith;
-      written = ap (λ l. laid c.loop-w.out c.loop-w.at (lines l)) (sym over) ∙ c.loop-w.invariant.0;
+      next = omega (arith, c.loop-w.invariant.3, ap length over);
+      written = ap (λ l. laid c.loop-w.out c.loop-w.at (join_lines l)) (sym over) ∙ c.loop-w.invariant.2;
     }

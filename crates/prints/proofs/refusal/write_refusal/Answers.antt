@@ -15,5 +15,5 @@ returns c =
     let room : 17 ≤ length out = omega arith in
     record {
       answer = sym (refusal_fits r l p out hr hl hp room);
-      written = c.put_three.ensures ∙ refusal_full r l p out hr hl hp room;
+      written = c.put_line.ensures ∙ refusal_full r l p out hr hl hp room;
     }

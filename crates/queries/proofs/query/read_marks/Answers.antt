@@ -1,50 +1,45 @@
-use Rattle.std.proofs.Common.{◌+◌, ◌*◌, ◌≤◌, List, length, Err, sym, ap, ◌∙◌, arith, length-set}
-use Rattle.std.proofs.lemmas.Result.{err_from_is_err_and}
-use Rattle.theory.specs.declared.mark.Mark.{Mark}
-use Rattle.texts.proofs.Refusals.{made_refused, refused_on}
-use Rattle.texts.specs.Fault.{text_value}
-use Rattle.rejections.specs.Fault.{query_place}
-use Rattle.queries.specs.QueryRead.{Told, mark_step, marks_read}
+use Rattle.std.proofs.Common.{◌+◌, ◌*◌, length, set, Ok, Err, sym, refl, ap, ◌∙◌, rules}
+use Rattle.std.proofs.lemmas.List.{set-get_or}
+use Rattle.texts.specs.declared.reader.Reader.{Reader}
+use Rattle.texts.proofs.Refusals.{passed_on}
+use Rattle.queries.specs.QueryRead.{pair_at, mark_step, marks_read}
 use Rattle.rejections.specs.declared.fault.QueryFault.TheVariants.{Text}
-use Rattle.queries.proofs.Steps.{lines_end, marks_on, marks_off}
+use Rattle.queries.proofs.Steps.{lines_on, lines_off, lines_end, mark_on, mark_off}
 use Rattle.queries.proofs.query.read_marks.Goals as goal
 
-pub loop-i-preserved : goal.loop-i-preserved
-loop-i-preserved c =
-    let text = c.args.text.now in
-    let whole = marks_read text c.args.at c.args.count c.args.marks.now in
-    let ok = sym c.pair_line.ensures.answer ∙ c.in_ok-v.was in
-    let more : c.args.at + 17 * c.loop-i.i + 17 ≤ length text = c.in_ok-v.ensures.within in (
-      marks_on text c.args.at whole c.args.count c.loop-i.i c.loop-i.marks c.loop-i-test.true c.loop-i.invariant.0 (c.in_ok-v.v, c.in_ok-v.w) ok,
-      length-set c.loop-i.marks c.loop-i.i _ ∙ c.loop-i.invariant.1,
-      omega arith,
+pub loop-mark-preserved : goal.loop-mark-preserved
+loop-mark-preserved c =
+    let r = c.args.reader.now in
+    let l = c.args.marks.now in
+    let i = c.loop-mark.mark-index in
+    let s = c.loop-mark.marks in
+    let v = c.in_ok-v.v in
+    let w = c.in_ok-v.w in
+    let whole = marks_read r.text.now r.at (length l) l in
+    let ok = sym (c.pair_line.ensures.answer ∙ ap (λ (r : Reader). pair_at r.text.now r.at 77) c.loop-mark.invariant.1) ∙ c.in_ok-v.was in
+    let onward = c.in_ok-v.ensures.onward in (
+      lines_on (mark_step r.text.now r.at) whole (length l) i s c.loop-mark.invariant.0 c.loop-mark-test.true (Ok tt) (set s i (record { v = v; w = w }))
+          (mark_on r.text.now (r.at + 17 * i) i s v w ok) refl,
+      search rules,
     )
 
-pub returns-in_err-v : goal.returns-in_err-v
-returns-in_err-v c =
-    let text = c.args.text.now in
-    let whole = marks_read text c.args.at c.args.count c.args.marks.now in
+pub returns-in_err-v-clause-effect : goal.returns-in_err-v-clause-effect
+returns-in_err-v-clause-effect c =
+    let r = c.args.reader.now in
+    let l = c.args.marks.now in
+    let i = c.loop-mark.mark-index in
+    let s = c.loop-mark.marks in
     let f = c.in_err-v.field-0.0 in
-    let p = err_from_is_err_and c.from_residual.result c.from_residual.ensures.1 in
-    let bad = sym c.pair_line.ensures.answer ∙ c.in_err-v.was in
-    let e = marks_off text c.args.at whole c.args.count c.loop-i.i c.loop-i.marks c.loop-i-test.true c.loop-i.invariant.0 f bad in
-    record {
-      answer = p.1 ∙ ap (λ f. Err f) p.2 ∙ sym (ap (λ (t : Told (List Mark)). t.told) e);
-      left = sym (ap (λ (t : Told (List Mark)). t.left) e);
-      within = made_refused c.from_residual.result p.0 _ p.1;
-      near =
-          let close : text_value f ≤ length text + 16 = omega (arith, c.in_err-v.ensures.near, c.loop-i.invariant.2) in
-          refused_on c.from_residual.result p.0 (Text f) (λ f. query_place f ≤ length text + 16) p.1 p.2 close;
-    }
+    let q = c.from_residual.result in
+    let whole = marks_read r.text.now r.at (length l) l in
+    let bad = sym (c.pair_line.ensures.answer ∙ ap (λ (r : Reader). pair_at r.text.now r.at 77) c.loop-mark.invariant.1) ∙ c.in_err-v.was in
+    lines_off (mark_step r.text.now r.at) whole (length l) i s c.loop-mark.invariant.0 c.loop-mark-test.true (Err (Text f)) s
+    (mark_off r.text.now (r.at + 17 * i) i s f bad) (Text f) refl q (passed_on q (Text f) c.from_residual.ensures.1)
+    ∙ ap (λ m. record { told = q; left = m }) (sym (set-get_or s i _))
 
-pub returns : goal.returns
-returns c =
-    let text = c.args.text.now in
-    let whole = marks_read text c.args.at c.args.count c.args.marks.now in
-    let e = lines_end (mark_step text c.args.at) whole c.args.count c.loop-i.i c.loop-i.marks c.loop-i-test.false c.loop-i.invariant.0 in
-    record {
-      answer = sym (ap (λ (t : Told (List Mark)). t.told) e);
-      left = sym (ap (λ (t : Told (List Mark)). t.left) e);
-      within = omega (arith, c.loop-i.invariant.2);
-      near = tt;
-    }
+pub returns-clause-effect : goal.returns-clause-effect
+returns-clause-effect c =
+    let r = c.args.reader.now in
+    let l = c.args.marks.now in
+    let whole = marks_read r.text.now r.at (length l) l in
+    lines_end (mark_step r.text.now r.at) whole (length l) c.loop-mark.mark-index c.loop-mark.marks c.loop-mark.invariant.0 c.loop-mark-test.false

@@ -37,6 +37,6 @@ returns c =
     let answer : Ok (list_length l) ≡ list_write_answer n t l (length out) = search rules in
     record {
       answer = answer;
-      written = written-by n t l out c.put_three.new.out c.put_three-2.new.out c.put_steps.new.out (list_length l) room c.put_three.ensures c.put_three-2.ensures c.put_steps.ensures answer;
-      back = back_by n t l out c.put_three.new.out c.put_three-2.new.out c.put_steps.new.out (list_length l) room c.put_three.ensures c.put_three-2.ensures c.put_steps.ensures answer;
+      written = written-by n t l out c.put_line.new.out c.put_line-2.new.out c.put_steps.new.out (list_length l) room c.put_line.ensures c.put_line-2.ensures c.put_steps.ensures answer;
+      back = back_by n t l out c.put_line.new.out c.put_line-2.new.out c.put_steps.new.out (list_length l) room c.put_line.ensures c.put_line-2.ensures c.put_steps.ensures answer;
     }

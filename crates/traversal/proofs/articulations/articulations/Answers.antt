@@ -1,29 +1,58 @@
 -- Each turn hands on what one more table touches.
-use Rattle.std.proofs.Common.{◌≡◌, ◌-◌, ◌≤◌, arith}
+use Rattle.std.proofs.Common.{◌≡◌, ℕ, ◌-◌, ◌<◌, List, length, get_or, take, ap, ◌∙◌, subst, sym, arith}
+use Rattle.std.proofs.lemmas.List.{get_or-take, length-take-le}
 use Rattle.traversal.specs.Standing.{row_joins}
-use Rattle.traversal.specs.Folding.{left_at}
-use Rattle.traversal.proofs.Finished.{some_left, few_left, way_start, way_fits, way_on, way_end}
+use Rattle.traversal.specs.declared.lows.Lows.{Lows}
+use Rattle.traversal.proofs.Stacks.{take_small}
+use Rattle.traversal.proofs.Finished.{some_left, start_last, way_start, way_fits, way_on, way_end}
 use Rattle.traversal.proofs.articulations.articulations.Goals as goal
 
 pub overflow_sub-last : goal.overflow_sub-last
-overflow_sub-last c = some_left c.requires.0 (row_joins c.args.rows.now) c.args.start c.args.state.now c.requires.1
+overflow_sub-last c =
+    let long : length c.as_slice-left.result.now ≡ length c.args.survey.now.left.items = ap length c.as_slice-left.ensures.value in
+    omega (arith, some_left c.requires.0 (row_joins c.args.rows.now) c.requires.1 c.args.survey.now c.requires.2)
 
-pub loop-k-init : goal.loop-k-init
-loop-k-init c = ((c.told-rows, c.fits-rows), λ U w. way_start U c.args.rows.now c.args.start c.args.state.now)
+pub bounds-left-last : goal.bounds-left-last
+bounds-left-last c =
+    let long : length c.as_slice-left.result.now ≡ length c.args.survey.now.left.items = ap length c.as_slice-left.ensures.value in
+    omega (arith, some_left c.requires.0 (row_joins c.args.rows.now) c.requires.1 c.args.survey.now c.requires.2)
+
+pub loop-v-init : goal.loop-v-init
+loop-v-init c = record {
+  fits = (c.told-rows, c.fits-rows);
+  start = ap (λ (l : List ℕ). get_or l (length l - 1) 0) c.as_slice-left.ensures.value;
+  folds = λ U r w. way_start U c.args.rows.now r c.args.survey.now;
+}
 
 pub fold-requires : goal.fold-requires
 fold-requires c =
-    let few : c.args.state.now.count ≤ 64 = few_left c.requires.0 (row_joins c.args.rows.now) c.args.start c.args.state.now c.requires.1 in
-    (omega arith, (c.requires.1.stands.low, c.requires.1.stands.small))
+    let s = c.args.survey.now in
+    let k = length c.as_slice-left.result.now - 1 in
+    subst (λ (l : List ℕ). get_or (take k l) c.loop-v.v-index 0 < 64) (sym c.as_slice-left.ensures.value) (take_small 64 k s.left.items s.low c.loop-v.v-index)
 
-pub loop-k-preserved : goal.loop-k-preserved
-loop-k-preserved c = (
-  way_fits c.args.state.now c.args.start c.loop-k.k c.loop-k.lows c.fold.new.self c.fold.ensures c.requires.1.stands.small c.loop-k.invariant.0,
-  λ U w. way_on U (row_joins c.args.rows.now) c.args.start c.args.state.now w c.loop-k.k c.loop-k-test.true c.loop-k.lows (c.loop-k.invariant.1 U w) c.fold.new.self
-      c.fold.ensures (c.loop-k.invariant.0.1 (left_at c.args.state.now c.loop-k.k)) c.loop-k.invariant.0.0,
-)
+pub loop-v-preserved : goal.loop-v-preserved
+loop-v-preserved c =
+    let s = c.args.survey.now in
+    let q = c.loop-v.invariant in
+    let i = c.loop-v.v-index in
+    let left = c.as_slice-left.result.now in
+    let v = get_or (take (length left - 1) left) i 0 in
+    let long : length left ≡ length s.left.items = ap length c.as_slice-left.ensures.value in
+    let most : length (take (length left - 1) left) ≡ length left - 1 = length-take-le (length left - 1) left (omega arith) in
+    let low : i < length s.left.items - 1 = omega (arith, c.loop-v-test.true) in
+    let here : v ≡ get_or s.left.items i 0 = get_or-take (length left - 1) left i 0 (omega arith) ∙ ap (λ (l : List ℕ). get_or l i 0) c.as_slice-left.ensures.value in
+    record {
+      fits = way_fits s v c.loop-v.lows c.fold.new.self c.fold.ensures q.fits;
+      start = ap (λ (w : Lows). w.start) c.fold.ensures ∙ q.start;
+      folds = λ U r w. way_on U (row_joins c.args.rows.now) r s w i low c.loop-v.lows (q.folds U r w) v here c.fold.new.self c.fold.ensures
+          (q.start ∙ start_last U (row_joins c.args.rows.now) r s w) q.fits;
+    }
 
 pub returns : goal.returns
-returns c = λ U w.
-    let last : c.loop-k.k ≡ c.args.state.now.count - 1 = omega arith in
-    way_end U (row_joins c.args.rows.now) c.args.start c.args.state.now w c.loop-k.k c.loop-k.lows.cuts c.loop-k.lows.touched last (c.loop-k.invariant.1 U w)
+returns c = λ U r w.
+    let s = c.args.survey.now in
+    let left = c.as_slice-left.result.now in
+    let long : length left ≡ length s.left.items = ap length c.as_slice-left.ensures.value in
+    let most : length (take (length left - 1) left) ≡ length left - 1 = length-take-le (length left - 1) left (omega arith) in
+    let end : c.loop-v.v-index ≡ length s.left.items - 1 = omega (arith, c.loop-v-test.false, c.loop-v.auto.v-index-end) in
+    way_end U (row_joins c.args.rows.now) r s w c.loop-v.v-index c.loop-v.lows.cuts c.loop-v.lows.touched end (c.loop-v.invariant.folds U r w)

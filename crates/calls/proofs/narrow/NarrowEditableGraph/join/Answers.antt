@@ -1,4 +1,4 @@
-use Rattle.std.proofs.Common.{◌<◌, ◌≤◌, sym, subst, arith, rules}
+use Rattle.std.proofs.Common.{◌<◌, ◌≤◌, sym, subst, arith}
 use Rattle.theory.specs.Graph.{Simple, size, joining}
 use Rattle.theory.proofs.Sizes.{joining_size}
 use Rattle.bits.specs.Rows.{rows_graph}

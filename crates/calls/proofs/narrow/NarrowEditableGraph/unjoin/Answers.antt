@@ -1,20 +1,16 @@
-use Rattle.std.proofs.Common.{◌<◌, ◌≤◌, sym, subst, arith, rules}
+use Rattle.std.proofs.Common.{◌≤◌, sym, ap, ◌∙◌, subst}
 use Rattle.theory.specs.Graph.{Simple, size, unjoining}
-use Rattle.theory.proofs.Sizes.{unjoining_size}
+use Rattle.graph.specs.Store.{after}
 use Rattle.bits.specs.Rows.{rows_graph}
-use Rattle.calls.proofs.Few.{after_few}
+use Rattle.calls.proofs.Few.{unjoined_few}
 use Rattle.calls.proofs.narrow.NarrowEditableGraph.unjoin.Goals as goal
 
--- there is one join less
+-- there is one join less, or as many
 pub invariant_of-self : goal.invariant_of-self
 invariant_of-self c =
     let s = c.args.self.now in
     let t = s.graph in
     let m = rows_graph t.count t.rows in
-    let told = c.tables-tables.ensures in
-    let ha : c.args.a < t.count = omega (arith, told, c.if-a-tables.true) in
-    let hb : c.args.b < t.count = omega (arith, told, c.if-b-tables.true) in
     let simple : Simple m = record { some = t.some; few = t.few; symmetric = t.symmetric; loopless = t.loopless; within = t.within } in
-    let less = unjoining_size m c.args.a c.args.b ha hb c.if-a-b.true simple (sym c.if-joined.ensures) in
-    let few : size (unjoining m c.args.a c.args.b) ≤ s.most = omega (arith, less, s.fits) in
-    record { fits = subst (λ g. size g ≤ s.most) (sym c.unjoin.ensures.meant) (after_few s.most c.unjoin.result (unjoining m c.args.a c.args.b) m few s.fits); low = s.low }
+    let is = c.unjoin.ensures.meant ∙ ap (λ r. after r (unjoining m c.args.a c.args.b) m) c.unjoin.ensures.answer in
+    record { fits = subst (λ g. size g ≤ s.most) (sym is) (unjoined_few s.most m c.args.a c.args.b simple s.fits); low = s.low }

@@ -1,0 +1,9 @@
+use Rattle.std.proofs.Common.{◌≡◌, ◌+◌, ◌-◌, ◌<◌, ◌^◌}
+use Rattle.lines.specs.Read.{count_from, count_at}
+use Rattle.columns.proofs.read.Field.first_marks.Given as goal
+
+abbrev pub invariant-loop-k : goal.invariant-loop-k
+invariant-loop-k l = record {
+  rest : count_at l.self.text.now l.self.at ≡ count_from l.self.text.now (l.self.at + l.k) (10 - l.k) l.s.0 l.s.1;
+  small : l.s.1 < 10 ^ l.k;
+}
