@@ -37,7 +37,7 @@ impl<R: Read, W: Write> Run<'_, R, W> {
     // stays: the text is fixed memory, and the list is laid over it
     fn print(&mut self, text: &mut [u8], len: usize) -> io::Result<()> {
         let n = assemble_text(text, len, self.steps, self.marks);
-        self.output.write_all(&text[0..n])
+        self.output.write_all(&text[..n])
     }
 
     /// Reads on into memory for the longest text, and prints.
@@ -69,7 +69,7 @@ fn main(rt: HostRuntime) -> io::Result<()> {
     let mut output = rt.stdout();
     let len = read_whole(&mut input, &mut page)?;
     match assemble_page(&mut page, len, &mut steps, &mut marks) {
-        Some(n) => output.write_all(&page[0..n]),
+        Some(n) => output.write_all(&page[..n]),
         None => {
             let mut run = Run {
                 input: &mut input,

@@ -1,12 +1,11 @@
 -- A list that was printed, given to the program `replay`, makes the graph again.
 use Rattle.std.proofs.Common.{◌≡◌, ℕ, ◌+◌, ◌≤◌, min, List, length, take, Ok, sym, refl, ap, ◌∙◌, ⊎_elim, arith, length-take}
-use Rattle.std.proofs.lemmas.Bool.Decides.{nat_tests}
 use Rattle.theory.specs.Graph.{Graph, table_count, size, no_joins, clamped}
 use Rattle.theory.specs.Listing.{joins_of, ListsJoins}
 use Rattle.theory.specs.declared.mark.Mark.{Mark}
 use Rattle.theory.specs.declared.step.Step.{Step}
 use Rattle.theory.proofs.Listing.{joins_listed}
-use Rattle.theory.proofs.Sizes.{size_most}
+use Rattle.theory.proofs.Sizes.{size_most, clamped_same}
 use Rattle.construction.specs.Replay.{replayed}
 use Rattle.assembly.specs.Build.{list_of, built_of}
 use Rattle.assembly.proofs.Laws.{there, plays_back}
@@ -21,9 +20,6 @@ use Rattle.programs.proofs.Prints.{shown_graph}
 use Rattle.assembler.specs.Assemble.{printed}
 use Rattle.assembler.proofs.Accepted.{Accepted}
 
-unclamped : (n : ℕ) → 1 ≤ n → n ≤ 64 → clamped n ≡ n
-unclamped n h k = grind (arith, nat_tests)
-
 -- a text that begins with what was printed
 looked_whole : (text out : List ℕ) → length out ≤ 36465 → take (length out) text ≡ out → looked_at text (length out) ≡ out
 looked_whole text out few e =
@@ -35,7 +31,7 @@ module _ (input : List ℕ) (steps : List Step) (marks : List Mark) (m : Graph) 
   made_again : (replayed 2016 (no_joins (clamped (table_count m))) (list_of m).triangle (list_of m).steps).graph ≡ m
   made_again =
       let s = a.was.simple in
-      let n = unclamped (table_count m) s.some s.few in
+      let n = clamped_same (table_count m) s.some s.few in
       let t = there m s steps (built_of m) a.answer in
       ap (λ k. (replayed 2016 (no_joins k) (list_of m).triangle (list_of m).steps).graph) n
       ∙ sym (ap (λ l. (replayed 2016 (no_joins (table_count m)) (list_of m).triangle l).graph) t.steps)

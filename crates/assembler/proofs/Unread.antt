@@ -11,10 +11,8 @@ use Rattle.theory.specs.Graph.{Simple, joined, is_table, size, joining}
 use Rattle.theory.specs.declared.mark.Mark.{Mark}
 use Rattle.theory.proofs.Sizes.{joining_size, size_most}
 use Rattle.graph.specs.Store.{join_answer}
-use Rattle.graph.specs.declared.fault.StoreFault.{StoreFault}
 use Rattle.graph.specs.declared.fault.StoreFault.TheVariants.{UnknownTable, SameTable, AlreadyJoined, Full}
 use Rattle.catalogue.specs.Rows.{out_of_range, row_answer}
-use Rattle.catalogue.specs.declared.fault.RowFault.{RowFault}
 use Rattle.catalogue.specs.declared.fault.RowFault.TheVariants as row-faults
 use Rattle.lines.specs.Form.{Longest}
 use Rattle.lines.specs.Read.{line_at}
@@ -34,6 +32,7 @@ use Rattle.rejections.specs.declared.fault.QueryFault.{QueryFault}
 use Rattle.rejections.specs.declared.fault.QueryFault.TheVariants.{Text, Join, Row}
 use Rattle.texts.proofs.Near.{here_inside}
 use Rattle.queries.proofs.Whole.{begun_inside}
+use Rattle.assembly.proofs.Laws.{ok_err}
 use Rattle.assembler.specs.AssembleLaw.{IsQuery, LineAmiss}
 use Rattle.assembler.proofs.Begun.{begun_simple}
 
@@ -101,12 +100,6 @@ row_good : (n : ℕ) (r : ℕ × ℤ) → GoodRow n r → row_answer n r.0 r.1 �
 row_good n r g =
     passes (leb n r.0) (row-faults.UnknownTable r.0) _ (lt-leb n r.0 g.table)
     ∙ passes (out_of_range r.1) (row-faults.OutOfRange r.0 r.1) _ g.in_range
-
-no_store_fault : (f : StoreFault) → ◌≡◌ {A = Result Unit StoreFault} (Ok tt) (Err f) → ⊥
-no_store_fault f e = cc
-
-no_row_fault : (f : RowFault) → ◌≡◌ {A = Result Unit RowFault} (Ok tt) (Err f) → ⊥
-no_row_fault f e = cc
 
 -- ---- lines, one after another
 
@@ -239,7 +232,7 @@ module _ (text : List ℕ) (at room n m : ℕ) where
     fine (inl (q, h, d, g)) (Text (TooFew z)) a = a
     fine (inl (q, h, d, g)) (Join z f) a =
         let e : q ≡ a.1 = pair_of q a.1 (same_line text p p (join_line q) (join_line a.1) refl h a.2) in
-        no_store_fault f (sym (join_good n js q simple g) ∙ ap (λ (x : ℕ × ℕ). join_answer (lines_graph n js) 2016 x.0 x.1) e ∙ a.4)
+        ok_err tt f (sym (join_good n js q simple g) ∙ ap (λ (x : ℕ × ℕ). join_answer (lines_graph n js) 2016 x.0 x.1) e ∙ a.4)
     fine (inl (q, h, d, g)) (Row z f) a = apart p p (join_line q) (row_line a.1) refl h a.2 (λ y. omega arith)
     fine (inr (inl (k, h, d))) (Text (BadForm z)) a = no_longest text p z (mark_line k) a.0 h
     fine (inr (inl (k, h, d))) (Text (Misplaced z)) a = due_amiss (mark_line k) h d a.1 a.2 a.3
@@ -254,7 +247,7 @@ module _ (text : List ℕ) (at room n m : ℕ) where
     fine (inr (inr (r, h, d, g))) (Join z f) a = apart p p (row_line r) (join_line a.1) refl h a.2 (λ y. omega arith)
     fine (inr (inr (r, h, d, g))) (Row z f) a =
         let e : r ≡ a.1 = row_of r a.1 (same_line text p p (row_line r) (row_line a.1) refl h a.2) in
-        no_row_fault f (sym (row_good n r g) ∙ ap (λ (x : ℕ × ℤ). row_answer n x.0 x.1) e ∙ a.4)
+        ok_err tt f (sym (row_good n r g) ∙ ap (λ (x : ℕ × ℤ). row_answer n x.0 x.1) e ∙ a.4)
 
     -- nor with the text's end, where nothing is owed
     ended : p ≡ length text → NothingOwed n m (length js) (length ms) → (f : QueryFault) → Amiss text p n m js (length ms) (length rs) f → ⊥

@@ -3,8 +3,7 @@
 --   steps_fit, list_fits          the list that is laid: within the records, and its text within the text
 --   done_listed                   a query that is accepted
 --   done_refused                  a query that is refused
-use Rattle.std.proofs.Common.{◌≡◌, ℕ, ◌-◌, ◌≤◌, min, Bool, true, false, cond, ltb, ◌↔◌, List, [], length, take, drop, Ok, Err, Result, sym, refl, ap, ◌∙◌, subst, inl, inr, arith, length-take}
-use Rattle.std.proofs.lemmas.List.{take_at}
+use Rattle.std.proofs.Common.{◌≡◌, ℕ, ◌-◌, ◌≤◌, min, Bool, true, false, cond, ltb, ◌↔◌, List, [], length, take, Ok, Err, Result, sym, refl, ap, ◌∙◌, subst, inl, inr, arith, length-take}
 use Rattle.std.proofs.lemmas.Bool.{le-ltb, ltb-false}
 use Rattle.theory.specs.Graph.{Graph, joined, table_count, size}
 use Rattle.theory.specs.Listing.{joins_of, ListsJoins}
@@ -13,9 +12,10 @@ use Rattle.theory.specs.declared.step.Step.{Step}
 use Rattle.writer.specs.Laid.{laid}
 use Rattle.lines.proofs.Bytes.{line_length}
 use Rattle.assembly.specs.Build.{list_of}
+use Rattle.assembly.proofs.Laws.{ok_err}
 use Rattle.texts.specs.ListText.{list_text, Listable}
 use Rattle.texts.specs.ListWrite.{list_length}
-use Rattle.texts.proofs.Laying.{laid_whole, laid_length}
+use Rattle.texts.proofs.Laying.{laid_front, laid_length}
 use Rattle.texts.proofs.Stands.{list_text_length}
 use Rattle.prints.specs.GraphText.{text_of_graph}
 use Rattle.prints.specs.Refusal.{refusal_line}
@@ -35,16 +35,8 @@ use Rattle.assembler.proofs.Replays.{prints_joins}
 looked_most : (text : List ℕ) (len : ℕ) → length (looked_at text len) ≤ length text
 looked_most text len = let cut = length-take (min (min len (length text)) 36465) text in omega arith
 
--- the first bytes of what is laid over a text
-front : (text out : List ℕ) (r : ℕ) → r ≡ length out → length out ≤ length text → take r (laid text 0 out) ≡ out
-front text out r e room =
-    ap (λ k. take k (laid text 0 out)) e ∙ ap (take (length out)) (laid_whole text out room) ∙ take_at out (drop (length out) text) (length out) refl
-
 same_graph : (m k : Graph) → ◌≡◌ {A = Result Graph ProgramFault} (Ok m) (Ok k) → m ≡ k
 same_graph m k e = cc
-
-no_graph : (f : ProgramFault) (m : Graph) → ◌≡◌ {A = Result Graph ProgramFault} (Err f) (Ok m) → ⊥
-no_graph f m e = cc
 
 -- a list that is given is shown
 shown_list : (text : List ℕ) (len : ℕ) (steps : List Step) (marks : List Mark) (m : Graph) → Accepted (looked_at text len) steps marks m → shown (length text) (Ok m) ≡ printed (Ok m)
@@ -71,7 +63,15 @@ module _ (text : List ℕ) (len : ℕ) (steps : List Step) (marks : List Mark) w
         subst (λ (x : Graph). (replay_prints other (length (printed (Ok m))) records ≡ text_of_graph x) × ListsJoins x (joins_of x)) same
         (prints_joins (looked_at text len) steps marks m is_found other records begins room enough)
 
-  module _ (q : Listed) (steps' : List Step) (answer : Ok q ≡ listed (assemble_told (looked_at text len) steps marks)) (filled : steps' ≡ steps_left (looked_at text len) steps marks) where
+  -- `part` is what was read
+  module _ {part : List ℕ} (cut : part ≡ looked_at text len)
+      (q : Listed) (steps' : List Step) (told : Ok q ≡ listed (assemble_told part steps marks)) (left : steps' ≡ steps_left part steps marks) where
+    answer : Ok q ≡ listed (assemble_told (looked_at text len) steps marks)
+    answer = told ∙ ap (λ p. listed (assemble_told p steps marks)) cut
+
+    filled : steps' ≡ steps_left (looked_at text len) steps marks
+    filled = left ∙ ap (λ p. steps_left p steps marks) cut
+
     graph_of : Graph
     graph_of = (listed_back (assemble_told (looked_at text len) steps marks) q answer).0
 
@@ -119,7 +119,7 @@ module _ (text : List ℕ) (len : ℕ) (steps : List Step) (marks : List Mark) w
         ∙ sym (shown_list text len steps marks graph_of found)
         ∙ sym (ap (λ r. shown (length text) r) told_is)
 
-    pub done_listed : (marks' : List Mark) (r : ℕ) (text' : List ℕ) → marks' ≡ (query_in (looked_at text len) marks).marks
+    pub done_listed : (marks' : List Mark) (r : ℕ) (text' : List ℕ) → marks' ≡ (query_in part marks).marks
         → r ≡ list_length (take q.steps steps') → text' ≡ laid text 0 (list_text q.tables q.triangle (take q.steps steps'))
         → length steps ≡ 2013 → length marks ≡ 63 → Assembled text len steps marks r text' steps' marks'
     done_listed marks' r text' marked count lies records lent =
@@ -127,21 +127,21 @@ module _ (text : List ℕ) (len : ℕ) (steps : List Step) (marks : List Mark) w
         let bytes = list_text_length q.tables q.triangle lay in
         let long : length text' ≡ length text = ap length lies ∙ laid_length text 0 (list_text q.tables q.triangle lay) in
         let out : take r text' ≡ printed (Ok graph_of) =
-        ap (take r) lies ∙ front text (list_text q.tables q.triangle lay) r (count ∙ sym bytes) (omega (arith, bytes, list_fits)) ∙ list_is in
+        ap (take r) lies ∙ laid_front text (list_text q.tables q.triangle lay) r (count ∙ sym bytes) (omega (arith, bytes, list_fits)) ∙ list_is in
         record {
           count = count ∙ sym bytes ∙ ap length text_is;
           within = omega (arith, count, list_fits, long);
           lies = lies ∙ ap (laid text 0) text_is;
           filled = filled;
-          marked = marked;
+          marked = marked ∙ ap (λ p. (query_in p marks).marks) cut;
           law = λ _. inl (subst (λ o. GivesList (looked_at text len) o) (sym out) (law_given (looked_at text len) steps marks records lent graph_of found));
           key = subst (λ o. OneKeyInBytes (assemble_told (looked_at text len) steps marks) o) (sym out) (law_key graph_of told_is);
           replays = subst (λ o. ReplaysToJoins (assemble_told (looked_at text len) steps marks) o) (sym out) (law_replays graph_of told_is);
         }
 
-  module _ (f : ProgramFault) (answer : Err f ≡ listed (assemble_told (looked_at text len) steps marks)) where
+  module _ {part : List ℕ} (cut : part ≡ looked_at text len) (f : ProgramFault) (told : Err f ≡ listed (assemble_told part steps marks)) where
     told_off : assemble_told (looked_at text len) steps marks ≡ Err f
-    told_off = refused_back (assemble_told (looked_at text len) steps marks) f answer
+    told_off = refused_back (assemble_told (looked_at text len) steps marks) f (told ∙ ap (λ p. listed (assemble_told p steps marks)) cut)
 
     shown_by : (c : Bool) → ltb (length text) 17 ≡ c → length (cond c [] (printed (Err f))) ≤ length text
     shown_by true test = omega arith
@@ -149,22 +149,22 @@ module _ (text : List ℕ) (len : ℕ) (steps : List Step) (marks : List Mark) w
         let fits = ltb-false (length text) 17 test in
         let bytes = line_length (refusal_line (fault_number f) (fault_layer f) (fault_place f)) in omega arith
 
-    pub done_refused : (steps' : List Step) (marks' : List Mark) (r : ℕ) (text' : List ℕ) → steps' ≡ steps_left (looked_at text len) steps marks → marks' ≡ (query_in (looked_at text len) marks).marks
+    pub done_refused : (steps' : List Step) (marks' : List Mark) (r : ℕ) (text' : List ℕ) → steps' ≡ steps_left part steps marks → marks' ≡ (query_in part marks).marks
         → r ≡ length (shown (length text) (Err f)) → text' ≡ laid text 0 (shown (length text) (Err f))
         → length steps ≡ 2013 → length marks ≡ 63 → fault_place f ≤ 99999 → Assembled text len steps marks r text' steps' marks'
-    done_refused steps' marks' r text' filled marked count lies records lent near =
+    done_refused steps' marks' r text' left marked count lies records lent near =
         let b = length text in
-        let out : take r text' ≡ shown b (Err f) = ap (take r) lies ∙ front text (shown b (Err f)) r count (shown_by (ltb b 17) refl) in
+        let out : take r text' ≡ shown b (Err f) = ap (take r) lies ∙ laid_front text (shown b (Err f)) r count (shown_by (ltb b 17) refl) in
         let same : shown b (Err f) ≡ shown b (assemble_told (looked_at text len) steps marks) = sym (ap (λ r. shown b r) told_off) in
         let long : length text' ≡ length text = ap length lies ∙ laid_length text 0 (shown b (Err f)) in
         record {
           count = count ∙ ap length same;
           within = omega (arith, count, shown_by (ltb b 17) refl, long);
           lies = lies ∙ ap (laid text 0) same;
-          filled = filled;
-          marked = marked;
+          filled = left ∙ ap (λ p. steps_left p steps marks) cut;
+          marked = marked ∙ ap (λ p. (query_in p marks).marks) cut;
           law = λ line. subst (λ o. Assembles (looked_at text len) o) (sym (out ∙ ap (λ c. cond c [] (printed (Err f))) (le-ltb b 17 line)))
               (inr (law_refused (looked_at text len) steps marks records lent f told_off near));
-          key = λ m e. absurd (no_graph f m (sym told_off ∙ e));
-          replays = λ m e. absurd (no_graph f m (sym told_off ∙ e));
+          key = λ m e. absurd (ok_err m f (sym e ∙ told_off));
+          replays = λ m e. absurd (ok_err m f (sym e ∙ told_off));
         }

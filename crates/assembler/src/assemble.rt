@@ -13,13 +13,16 @@ use catalogue::catalogue::Catalogue;
 use graph::graph::ReadableGraph;
 use outcomes::fault::ProgramFault;
 use programs::refusal::lay_refusal;
-use programs::workspace::TEXT;
+use programs::workspace::{PAGE, part_read};
 use queries::query::read_query;
+use texts::list::BuildList;
 use texts::list_write::write_list;
 use theory::mark::Mark;
 use theory::step::{Step, Triangle};
 
 /// A list that was given: the tables of its graph, its triangle, and how many records its steps fill.
+// stays: no `BuildList`: the steps lie in records lent for writing, and a shared borrow of these cannot be given back beside them; a
+// `Built` with the tables beside it would be taken apart at once
 #[derive(Clone, Copy)]
 pub struct Listed {
     pub tables: u32,
@@ -47,14 +50,13 @@ fn assembled(text: &[u8], steps: &mut [Step], marks: &mut [Mark]) -> Result<List
 }
 
 /// A list's text, laid over the text.
-// stays: the parts of a list as `write_list` takes them; its steps lie in lent records, so no value has them all
-fn lay_list(tables: u32, triangle: Triangle, steps: &[Step], text: &mut [u8]) -> usize
-    requires able { Listable tables triangle steps.now }
-    requires room { list_length steps.now ≤ length text.old }
-    ensures count { result ≡ list_length steps.now }
-    ensures laid { text.new ≡ laid text.old 0 (list_text tables triangle steps.now) }
+fn lay_list(list: BuildList, text: &mut [u8]) -> usize
+    requires able { Listable list.tables list.triangle list.steps.now }
+    requires room { list_length list.steps.now ≤ length text.old }
+    ensures count { result ≡ list_length list.entry.steps.now }
+    ensures laid { text.new ≡ laid text.old 0 (list_text list.entry.tables list.entry.triangle list.entry.steps.now) }
 {
-    write_list(text, tables, triangle, steps).unwrap_or(0)
+    write_list(text, list).unwrap_or(0)
 }
 
 /// Takes the first `len` bytes of the text as what was read, and lays what is to be printed over the text's first bytes; the
@@ -71,11 +73,14 @@ pub fn assemble_text(
     // that taking the graph apart gives, and it serves as the graph's key
     ensures { Assembled text.old len steps.old marks.old result text.new steps.new marks.new }
 {
-    let len = len.min(text.len()).min(TEXT);
-    match assembled(&text[..len], steps, marks) {
-        Ok(list) => {
-            let count = list.steps;
-            lay_list(list.tables, list.triangle, &steps[..count], text)
+    match assembled(part_read(text, len), steps, marks) {
+        Ok(listed) => {
+            let list = BuildList {
+                tables: listed.tables,
+                triangle: listed.triangle,
+                steps: &steps[..listed.steps],
+            };
+            lay_list(list, text)
         }
         Err(fault) => lay_refusal(fault, text),
     }
@@ -84,14 +89,14 @@ pub fn assemble_text(
 /// The same in a page, where all of the input fits into it; none, and nothing changed, where more may follow.
 // stays: apart from `replay_page`: a function over both would take the limit and the program, and is longer than the two
 pub fn assemble_page(
-    page: &mut [u8; 4096],
+    page: &mut [u8; PAGE],
     len: usize,
     steps: &mut [Step; 2013],
     marks: &mut [Mark; 63],
 ) -> Option<usize>
     ensures { Paged page.old len steps.old marks.old result page.new steps.new marks.new }
 {
-    if len >= 4096 {
+    if len >= PAGE {
         return None;
     }
     Some(assemble_text(page, len, steps, marks))

@@ -1,5 +1,5 @@
--- The laws of a build request, from the theorems on graphs.
-use Rattle.std.proofs.Common.{◌≡◌, ℕ, ◌+◌, ◌-◌, ◌≤◌, true, ◌⊎◌, List, ◌++◌, length, take, drop, Ok, Err, Result, sym, refl, ap, ◌∙◌, subst, inl, inr, ⊎_elim, arith}
+-- The laws of a build request, from the theorems on graphs. Also that an answer is no refusal: ok_err.
+use Rattle.std.proofs.Common.{◌≡◌, ◌+◌, ◌-◌, ◌≤◌, true, ◌⊎◌, List, ◌++◌, length, take, drop, Ok, Err, Result, sym, refl, ap, ◌∙◌, subst, inl, inr, ⊎_elim, arith}
 use lib.Seq.{take-append_seam}
 use Rattle.theory.specs.Graph.{Graph, Simple, joined, is_table, table_count, size, no_joins}
 use Rattle.theory.specs.Build.{LegalBuild}
@@ -23,8 +23,8 @@ use Rattle.assembly.specs.Build.{list_of, build_judged, built_of, built_after, b
 use Rattle.assembly.specs.BuildLaw.{ListGiven, LegalGiven, UnbuildableTold, RefusedExactly, NamedBy, Named, PlaysBack}
 use Rattle.assembly.proofs.Verdict.{fit_size, Verdict, judged}
 
-ok_err : {X F : Type 0} (x : X) (f : F) → Ok x ≡ Err f → ⊥
-ok_err x f e = let z : ◌≡◌ {A = ℕ} 0 1 = cc in omega arith
+pub ok_err : {X F : Type 0} (x : X) (f : F) → Ok x ≡ Err f → ⊥
+ok_err x f e = cc
 
 cases_judged : (r : Result Unit BuildFault) → (r ≡ Ok tt) ⊎ ((f : BuildFault) × (r ≡ Err f))
 cases_judged (Ok tt) = inl refl
@@ -33,9 +33,6 @@ cases_judged (Err f) = inr (f, refl)
 module _ (m : Graph) (s : Simple m) (l : List Step) where
   abbrev told : Result Built BuildFault
   told = build_answer m (length l)
-
-  abbrev after : List Step
-  after = records_after m l
 
   pub record There (b : Built) : Type 0 where
     pub fit : Fit (is_table m) (joined m)

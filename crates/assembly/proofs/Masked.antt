@@ -1,11 +1,11 @@
--- The judgement over sets kept as bits is the one over the graph that was surveyed.
+-- The judgement over sets of tables is the one over the graph that was surveyed.
 use Rattle.std.proofs.Common.{◌≡◌, ℕ, ◌-◌, ◌^◌, ◌<◌, Bool, cond, not, ◌&&◌, ltb, Some, None, Err, Option, Result, sym, refl, ap, ◌∙◌, ⊎_elim, arith}
 use lib.Count.{count_trailing_zeros}
 use Rattle.std.proofs.lemmas.Bool.{cases_eq, eq-eqb, ne_eqb}
 use Rattle.theory.specs.Graph.{Graph, is_table, joined, table_count, size}
-use Rattle.bits.specs.Rows.{bit}
-use Rattle.bits.proofs.Bit.{zero_bit}
-use Rattle.bits.proofs.Lowest.{lowest_below, lowest_bit}
+use Rattle.sets.specs.Set.{bit, lowest_in}
+use Rattle.sets.proofs.Bit.{zero_bit}
+use Rattle.sets.proofs.Lowest.{lowest_below, lowest_bit}
 use Rattle.disassembly.specs.Search.{lowest_from}
 use Rattle.disassembly.specs.Reach.{reached, separates, lowest_unreached, lowest_separating}
 use Rattle.disassembly.proofs.Members.{lowest_is, none_is}
@@ -14,9 +14,9 @@ use Rattle.refusals.specs.declared.build.BuildFault.TheVariants.{TooSmall, Unrea
 use Rattle.traversal.specs.Survey.{Surveys}
 use Rattle.traversal.specs.declared.survey.Survey.{Survey}
 use Rattle.assembly.specs.Build.{build_judged}
-use Rattle.verdicts.specs.Judge.{unless_named, room_judged, lowest_in, masks_judged}
+use Rattle.verdicts.specs.Judge.{unless_named, room_judged, sets_judged}
 
--- the lowest table of a set kept as bits
+-- the lowest table of a set
 pub lowest_bits : (w : ℕ) → w < 2 ^ 64 → (p : ℕ → Bool) → ((x : ℕ) → bit w x ≡ p x) → lowest_in w ≡ lowest_from 0 64 p
 lowest_bits w h p same = ⊎_elim
     (λ (e : w ≡ 0). ap (λ b. cond b None (Some (count_trailing_zeros 64 w))) (eq-eqb w 0 e)
@@ -47,9 +47,9 @@ module _ (m : Graph) (s : Survey) (h : Surveys m 0 s) (small : s.unreached < 2 ^
   cut_is : lowest_in s.unreached ≡ None → lowest_in s.articulations ≡ lowest_separating (is_table m) (joined m)
   cut_is e = lowest_bits s.articulations little (separates (is_table m) (joined m)) (h.articulations (zero_none e))
 
-  pub masks_are : masks_judged (table_count m) s.unreached s.articulations (size m - 3) room ≡ build_judged m room
+  pub sets_are : sets_judged (table_count m) s.unreached s.articulations (size m - 3) room ≡ build_judged m room
   unfolding build_judged
-  masks_are =
+  sets_are =
       ap (λ r. cond (ltb (table_count m) 3) (Err TooSmall) r)
       (unless (lowest_in s.unreached) (lowest_in s.articulations) (lowest_separating (is_table m) (joined m)) (λ o. unless_named o Articulation (room_judged (size m - 3) room)) cut_is
       ∙ ap (λ o. unless_named o Unreached (unless_named (lowest_separating (is_table m) (joined m)) Articulation (room_judged (size m - 3) room))) un_is)

@@ -13,8 +13,8 @@ use Rattle.traversal.specs.Survey.{Surveys}
 use Rattle.traversal.specs.declared.survey.Survey.{Survey}
 use Rattle.assembly.specs.declared.build.Built.{Built}
 use Rattle.assembly.specs.Build.{list_of, laid_over, build_judged, built_of, built_after, build_answer, records_given, records_after}
-use Rattle.verdicts.specs.Judge.{masks_judged}
-use Rattle.assembly.proofs.Masked.{masks_are}
+use Rattle.verdicts.specs.Judge.{sets_judged}
+use Rattle.assembly.proofs.Masked.{sets_are}
 use Rattle.assembly.proofs.Verdict.{fit_size, Verdict, judged}
 
 -- table 0 is a table of every graph
@@ -23,16 +23,16 @@ from_zero k n found h = let e : min 0 n ≡ 0 = omega arith in subst (λ r. Surv
 
 module _ (m k : Graph) (copied : k ≡ m) (found : Survey) (h : Surveys k 0 found) (n joins steps room : ℕ)
     (tables : n ≡ table_count k) (counted : joins ≡ size k) (needed : steps ≡ joins - 3)
-    (r : Result Unit BuildFault) (answer : r ≡ masks_judged n found.unreached found.articulations steps room)
+    (r : Result Unit BuildFault) (answer : r ≡ sets_judged n found.unreached found.articulations steps room)
     (small : found.unreached < 18446744073709551616) (little : found.articulations < 18446744073709551616) where
   steps_are : steps ≡ size k - 3
   steps_are = needed ∙ ap (λ j. j - 3) counted
 
   pub judged_so : r ≡ build_judged m room
   judged_so = answer
-      ∙ ap (λ x. masks_judged x found.unreached found.articulations steps room) tables
-      ∙ ap (λ x. masks_judged (table_count k) found.unreached found.articulations x room) steps_are
-      ∙ masks_are k found h small little room
+      ∙ ap (λ x. sets_judged x found.unreached found.articulations steps room) tables
+      ∙ ap (λ x. sets_judged (table_count k) found.unreached found.articulations x room) steps_are
+      ∙ sets_are k found h small little room
       ∙ ap (λ g. build_judged g room) copied
 
   pub refused_so : (f g : BuildFault) (o : Result Built BuildFault) (l : List Step) → length l ≡ room → r ≡ Err f → o ≡ Err g → f ≡ g

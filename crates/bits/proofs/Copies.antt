@@ -4,22 +4,13 @@
 --   copied_join, join_next    the next join of v from b on, put in
 --   copied_row                no join of v is left: the next row begins
 --   other_small               what is joined with a table is a table
---   fits_clamped              as many tables as a graph has are not clamped
 --   copied_apart              the next join is not in yet
 use Rattle.std.proofs.Common.{◌≡◌, ℕ, ◌+◌, ◌<◌, ◌≤◌, Bool, true, false, ◌&&◌, ◌||◌, ◌⊎◌, sym, refl, ap, ◌∙◌, inl, inr, ⊎_elim, arith}
-use mathlib.Core.Path.{fun_ext}
 use Rattle.std.proofs.lemmas.Bool.Decides.{nat_tests}
 use Rattle.std.proofs.lemmas.Bool.{cases_eq, cases_Bool, cases_lt}
-use Rattle.theory.specs.Graph.{Graph, Simple, Lowest, same_pair, joining, no_joins, clamped}
-use Rattle.theory.proofs.Sizes.{pair_adj}
+use Rattle.theory.specs.Graph.{Graph, Simple, Lowest, same_pair, joining, no_joins}
+use Rattle.theory.proofs.Sizes.{alike, pair_adj}
 use Rattle.bits.specs.Copy.{passed, copied}
-
-abbrev with_adj : ℕ → (ℕ → ℕ → Bool) → Graph
-with_adj n J = record { tables = n; adj = J }
-
--- two meanings that agree on every pair
-alike : (n : ℕ) (J K : ℕ → ℕ → Bool) → ((x y : ℕ) → J x y ≡ K x y) → with_adj n J ≡ with_adj n K
-alike n J K h = ap (with_adj n) (fun_ext (λ x. fun_ext (h x)))
 
 -- pairs that are not joined need no care
 where_joined : (p q j : Bool) → (j ≡ true → p ≡ q) → (p && j) ≡ (q && j)
@@ -43,10 +34,6 @@ copied_all m s = alike m.tables (λ x y. passed m.tables (m.tables + 1) x y && m
     (λ (e : m.adj x y ≡ true). let on : passed m.tables (m.tables + 1) x y ≡ true = all_passed m.tables x y (s.within x y e) in grind (arith, nat_tests))
     (λ (e : m.adj x y ≡ false). grind (arith, nat_tests))
     (cases_Bool (m.adj x y)))
-
--- as many tables as a graph has are not clamped
-pub fits_clamped : (n : ℕ) → 1 ≤ n → n ≤ 64 → clamped n ≡ n
-fits_clamped n some few = grind (arith, nat_tests)
 
 -- what is joined with a table is a table
 pub other_small : (m : Graph) → Simple m → (v w : ℕ) → m.adj v w ≡ true → w < m.tables

@@ -1,4 +1,2 @@
-pub mod Bit
-pub mod Lowest
 pub mod Edits
 pub mod Copies

@@ -1,19 +1,16 @@
--- What rows of bits mean: row a has a bit set for each table that a is joined with.
+-- What rows of bits mean: row a is the set of the tables that a is joined with.
 --
---   bit x k            whether bit k of the number x is set
 --   rows_graph n rows  the graph of n tables that the rows keep
 --   pair_answer n a b  what stands against any edit of a pair: 1 no table, 2 the same table, or nothing
-use Rattle.std.specs.Prelude.{ℕ, ◌/◌, ◌%◌, ◌^◌, Bool, not, List, [], ◌∷◌, Result, ◌==◌, nat_lt, slice_index}
+use Rattle.std.specs.Prelude.{ℕ, not, List, [], ◌∷◌, Result, ◌==◌, nat_lt}
 use Rattle.theory.specs.Graph.{Graph}
+use Rattle.sets.specs.Rows.{in_row}
 use Rattle.graph.specs.First.{refused_first}
 use Rattle.graph.specs.declared.fault.StoreFault.{StoreFault}
 use Rattle.graph.specs.declared.fault.StoreFault.TheVariants.{UnknownTable, SameTable}
 
-abbrev pub bit : ℕ → ℕ → Bool
-bit x k = x / 2 ^ k % 2 == 1
-
 abbrev pub rows_graph : ℕ → List ℕ → Graph
-rows_graph n rows = record { tables = n; adj = λ a b. bit (slice_index rows a) b }
+rows_graph n rows = record { tables = n; adj = in_row rows }
 
 abbrev pub pair_answer : ℕ → ℕ → ℕ → Result Unit StoreFault
 pair_answer n a b = refused_first

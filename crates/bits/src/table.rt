@@ -1,4 +1,4 @@
-//! The table of bits: for each table one 64-bit row, in which bit `b` is set where it is joined with table `b`.
+//! The table of bits: for each table one 64-bit row, the set of the tables that it is joined with.
 //! stays: two tables, or a table and a bound, are two arguments, as in the traits; a pair would be made and unmade at each call.
 ghost use Rattle.std.specs.Prelude.{◌≡◌, ℕ, ◌<◌, ◌≤◌, true, false, Ok, ◌≢◌};
 ghost use Rattle.std.proofs.Common.{lit≤, arith};
@@ -7,6 +7,7 @@ ghost use Rattle.bits.specs.Rows.{rows_graph, pair_answer};
 
 use graph::fault::StoreFault;
 use graph::graph::{EditableGraph, ReadableGraph};
+use sets::rows::Rows;
 
 pub mod copy;
 
@@ -15,7 +16,7 @@ pub mod copy;
 #[derive(Clone, Copy)]
 pub struct BitTable {
     count: u32,
-    rows: [u64; 64],
+    rows: Rows,
     joins: u32,
     /// There is a table at least.
     ghost some: { 1 ≤ count },
@@ -56,14 +57,15 @@ impl BitTable {
         requires { (a < self.old.count) × ((b < self.old.count) × ((a ≢ b) × ((rows_graph self.old.count self.old.rows).adj a b ≡ false))) }
         ensures { rows_graph self.new.count self.new.rows ≡ joining (rows_graph self.old.count self.old.rows) a b }
     {
-        self.rows[a as usize] |= 1u64 << b;
-        self.rows[b as usize] |= 1u64 << a;
+        self.rows.join(a, b);
         self.joins += 1;
     }
 }
 
 impl ReadableGraph for BitTable {
-    ghost meaning = { λ s. rows_graph s.count s.rows };
+    ghost use Rattle.bits.specs.Table.{graph_of};
+
+    ghost meaning = { graph_of };
 
     ghost simple = { λ s. record { some = s.some; few = s.few; symmetric = s.symmetric; loopless = s.loopless; within = s.within } };
 
@@ -71,20 +73,13 @@ impl ReadableGraph for BitTable {
         self.count
     }
 
+    // stays: a store hands the question on to its rows
     fn joined(&self, a: u32, b: u32) -> bool {
-        a < self.count && b < self.count && (self.rows[a as usize] >> b) & 1 == 1
+        self.rows.joined(a, b)
     }
 
     fn next_neighbour(&self, table: u32, bound: u32) -> Option<u32> {
-        if table >= self.count || bound >= 64 {
-            return None;
-        }
-        let high = self.rows[table as usize] >> bound;
-        if high == 0 {
-            None
-        } else {
-            Some(bound + high.trailing_zeros())
-        }
+        self.rows.row(table).first_from(bound)
     }
 }
 
@@ -116,8 +111,7 @@ impl EditableGraph for BitTable {
         if !self.joined(a, b) {
             return Err(StoreFault::NotJoined { a, b });
         }
-        self.rows[a as usize] ^= 1u64 << b;
-        self.rows[b as usize] ^= 1u64 << a;
+        self.rows.unjoin(a, b);
         self.joins -= 1;
         Ok(())
     }

@@ -1,32 +1,31 @@
--- A limit on the number of joins is kept.
+-- A limit on the number of joins is kept, below the room of the store that it is set to.
 --
---   after_few      by an edit whose two outcomes keep it
---   unjoined_few   by taking a pair out
-use Rattle.std.proofs.Common.{◌≡◌, ℕ, ◌≤◌, Bool, true, false, not, eqb, [], ◌∷◌, Ok, Err, Result, sym, refl, ◌∙◌, arith}
-use Rattle.std.proofs.lemmas.Bool.{ltb-true, eq-eqb}
-use borrow.Author.Tests.{clash}
-use Rattle.theory.specs.Graph.{Graph, Simple, size, joined, is_table, unjoining}
-use Rattle.theory.proofs.Sizes.{unjoining_size}
-use Rattle.graph.specs.First.{refused_first}
-use Rattle.graph.specs.Store.{unjoin_answer, after}
+--   one_more       a pair that is taken makes one join more
+--   with_room      what the store takes is taken, where that keeps the limit
+--   without_room   and is one too many, where it does not
+--   unjoined_few   taking a pair out keeps the limit
+use Rattle.std.proofs.Common.{◌≡◌, ℕ, ◌+◌, ◌<◌, ◌≤◌, Ok, Err, Result, arith}
+use Rattle.std.proofs.lemmas.Bool.Decides.{nat_tests}
+use Rattle.theory.specs.Graph.{Graph, Simple, size, joining, unjoining}
+use Rattle.theory.proofs.Sizes.{joining_size, unjoining_size}
+use Rattle.graph.specs.Store.{join_answer, unjoin_answer, after}
 use Rattle.graph.specs.declared.fault.StoreFault.{StoreFault}
-use Rattle.graph.specs.declared.fault.StoreFault.TheVariants.{UnknownTable, SameTable, NotJoined}
+use Rattle.graph.specs.declared.fault.StoreFault.TheVariants.{Full}
 
-pub after_few : (most : ℕ) (r : Result Unit StoreFault) (changed same : Graph) → size changed ≤ most → size same ≤ most → size (after r changed same) ≤ most
-after_few most (Ok _) changed same hc hs = hc
-after_few most (Err _) changed same hc hs = hs
+pub one_more : (m : Graph) (room a b : ℕ) → Simple m → join_answer m room a b ≡ Ok tt → size (joining m a b) ≡ size m + 1
+one_more m room a b simple taken =
+    joining_size m a b (grind (arith, nat_tests, taken)) (grind (arith, nat_tests, taken)) (grind (arith, nat_tests, taken)) simple (grind (arith, nat_tests, taken))
 
-module _ (most : ℕ) (m : Graph) (a b : ℕ) (simple : Simple m) (few : size m ≤ most) where
-  -- by the tests that the answer makes
-  few_by : (p q r s : Bool) → is_table m a ≡ p → is_table m b ≡ q → eqb a b ≡ r → joined m a b ≡ s
-      → size (after (refused_first ((not p, UnknownTable a) ∷ (not q, UnknownTable b) ∷ (r, SameTable a) ∷ (not s, NotJoined a b) ∷ [])) (unjoining m a b) m) ≤ most
-  few_by false q r s ha hb e held = few
-  few_by true false r s ha hb e held = few
-  few_by true true true s ha hb e held = few
-  few_by true true false false ha hb e held = few
-  few_by true true false true ha hb e held =
-      let less = unjoining_size m a b (ltb-true a m.tables ha) (ltb-true b m.tables hb) (λ same. clash (sym e ∙ eq-eqb a b same)) simple held in
+module _ (m : Graph) (room a b most : ℕ) (simple : Simple m) (taken : join_answer m room a b ≡ Ok tt) where
+  pub with_room : size (joining m a b) ≤ most → Ok tt ≡ join_answer m most a b
+  with_room fits = let more = one_more m room a b simple taken in grind (arith, nat_tests, taken, more, fits)
+
+  pub without_room : most < size (joining m a b) → Err (Full most) ≡ join_answer m most a b
+  without_room over = let more = one_more m room a b simple taken in grind (arith, nat_tests, taken, more, over)
+
+module _ (m : Graph) (a b most : ℕ) (simple : Simple m) (few : size m ≤ most) where
+  pub unjoined_few : (r : Result Unit StoreFault) → r ≡ unjoin_answer m a b → size (after r (unjoining m a b) m) ≤ most
+  unjoined_few (Ok _) taken =
+      let less = unjoining_size m a b (grind (arith, nat_tests, taken)) (grind (arith, nat_tests, taken)) (grind (arith, nat_tests, taken)) simple (grind (arith, nat_tests, taken)) in
       omega (arith, less)
-
-  pub unjoined_few : size (after (unjoin_answer m a b) (unjoining m a b) m) ≤ most
-  unjoined_few = few_by (is_table m a) (is_table m b) (eqb a b) (joined m a b) refl refl refl refl
+  unjoined_few (Err _) refused = few

@@ -1,4 +1,5 @@
 //! The calls under the program: lists read and written, graphs written, and the replay with its refusals.
+use super::given::{BLANK, FIRST};
 use super::narrow::Narrow;
 use bits::table::BitTable;
 use construction::replay::replay;
@@ -9,14 +10,13 @@ use refusals::fault::ReplayFault;
 use std::mem::size_of;
 use std::test::Fail;
 use texts::fault::TextFault;
-use texts::list::{Heading, read_list};
+use texts::list::{BuildList, Heading, read_list};
 use texts::list_write::write_list;
 use theory::step::{Step, Triangle};
 
+// stays: also in `cases`: a crate between the two would have to promise in public what only tests need
 const FIVE: &[u8] =
     b"H    5    6    3\nT    0    1    2\nN    3    0    2\nE         1    3\nN    4    0    3\n";
-
-const FIRST: Triangle = Triangle { a: 0, b: 1, c: 2 };
 
 const STEPS: [Step; 3] = [
     Step::Node { u: 3, v: 0, w: 2 },
@@ -24,7 +24,12 @@ const STEPS: [Step; 3] = [
     Step::Node { u: 4, v: 0, w: 3 },
 ];
 
-const BLANK: Step = Step::Edge { v: 7, w: 7 };
+/// The list of `FIVE`.
+const LIST: BuildList = BuildList {
+    tables: 5,
+    triangle: FIRST,
+    steps: &STEPS,
+};
 
 /// A record of three 32-bit numbers and a tag: with 64-bit ones the program would not keep within its memory.
 #[test]
@@ -74,7 +79,7 @@ fn list_read_in_part(rt: HostRuntime) {
 #[test]
 fn list_written(rt: HostRuntime) {
     let mut out = [7u8; 86];
-    assert_eq!(rt; write_list(&mut out, 5, FIRST, &STEPS), Ok(85));
+    assert_eq!(rt; write_list(&mut out, LIST), Ok(85));
     assert_eq!(rt; &out[0..85], FIVE);
     assert_eq!(rt; out[85], 7);
 }
@@ -84,42 +89,40 @@ fn list_written(rt: HostRuntime) {
 fn list_not_written(rt: HostRuntime) {
     let mut out = [7u8; 84];
     assert_eq!(rt;
-        write_list(&mut out, 5, FIRST, &STEPS),
+        write_list(&mut out, LIST),
         Err(TextFault::TooFew { needed: 85 })
     );
     assert_eq!(rt;
-        write_list(&mut out, 2, FIRST, &STEPS),
+        write_list(&mut out, BuildList { tables: 2, ..LIST }),
         Err(TextFault::OutOfLimits { place: 0 })
     );
     assert_eq!(rt;
-        write_list(&mut out, 65, FIRST, &STEPS),
+        write_list(&mut out, BuildList { tables: 65, ..LIST }),
         Err(TextFault::OutOfLimits { place: 0 })
     );
+    let triangle = Triangle {
+        a: 0,
+        b: 1,
+        c: 100000,
+    };
     assert_eq!(rt;
-        write_list(
-            &mut out,
-            5,
-            Triangle {
-                a: 0,
-                b: 1,
-                c: 100000,
-            },
-            &STEPS,
-        ),
+        write_list(&mut out, BuildList { triangle, ..LIST }),
         Err(TextFault::OutOfLimits { place: 17 })
     );
+    let steps = [
+        STEPS[0],
+        Step::Edge {
+            v: 99999,
+            w: 100000,
+        },
+    ];
     assert_eq!(rt;
         write_list(
             &mut out,
-            5,
-            FIRST,
-            &[
-                STEPS[0],
-                Step::Edge {
-                    v: 99999,
-                    w: 100000,
-                },
-            ],
+            BuildList {
+                steps: &steps,
+                ..LIST
+            },
         ),
         Err(TextFault::OutOfLimits { place: 51 })
     );

@@ -5,6 +5,8 @@
 #[cfg(test)]
 mod calls;
 #[cfg(test)]
+mod given;
+#[cfg(test)]
 mod narrow;
 #[cfg(test)]
 mod same_keys;

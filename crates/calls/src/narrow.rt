@@ -1,12 +1,12 @@
 //! A table of bits that takes fewer joins than it has room for.
 ghost use Rattle.std.specs.Prelude.{◌≡◌, ℕ, min, ◌≤◌};
 ghost use Rattle.theory.specs.Graph.{size, no_joins, clamped};
-ghost use Rattle.bits.specs.Rows.{rows_graph};
+ghost use Rattle.bits.specs.Table.{graph_of};
+ghost use Rattle.bits.specs.contracts.table.BitTableReadableGraph.TheImpl.Laws.{simple-law};
 
 use bits::table::BitTable;
 use graph::fault::StoreFault;
 use graph::graph::{EditableGraph, ReadableGraph};
-use prints::graph_text::count_joins;
 
 /// A graph of at most `most` joins.
 #[derive(Clone, Copy)]
@@ -14,20 +14,21 @@ pub struct Narrow {
     graph: BitTable,
     most: u32,
     /// It has no more.
-    ghost fits: { size (rows_graph graph.count graph.rows) ≤ most },
+    ghost fits: { size (graph_of graph) ≤ most },
     /// A table of bits has room for them.
     ghost low: { most ≤ 2016 },
 }
 
 impl ReadableGraph for Narrow {
-    ghost meaning = { λ s. rows_graph s.graph.count s.graph.rows };
+    ghost meaning = { λ s. graph_of s.graph };
 
-    ghost simple = { λ s. record { some = s.graph.some; few = s.graph.few; symmetric = s.graph.symmetric; loopless = s.graph.loopless; within = s.graph.within } };
+    ghost simple = { λ s. simple-law s.graph };
 
     fn tables(&self) -> u32 {
         self.graph.tables()
     }
 
+    // stays: a store in front of another hands each question on to it
     fn joined(&self, a: u32, b: u32) -> bool {
         self.graph.joined(a, b)
     }
@@ -49,25 +50,16 @@ impl EditableGraph for Narrow {
     }
 
     fn join(&mut self, a: u32, b: u32) -> Result<(), StoreFault> {
-        let tables = self.graph.tables();
-        if a >= tables {
-            return Err(StoreFault::UnknownTable { table: a });
-        }
-        if b >= tables {
-            return Err(StoreFault::UnknownTable { table: b });
-        }
-        if a == b {
-            return Err(StoreFault::SameTable { table: a });
-        }
-        if self.graph.joined(a, b) {
-            return Err(StoreFault::AlreadyJoined { a, b });
-        }
-        if count_joins(&self.graph) >= self.most as usize {
+        // a copy takes the pair, and is kept unless that is one too many
+        let mut joined = self.graph;
+        joined.join(a, b)?;
+        if joined.joins() > self.most {
             return Err(StoreFault::Full {
                 capacity: self.most,
             });
         }
-        self.graph.join(a, b)
+        self.graph = joined;
+        Ok(())
     }
 
     fn unjoin(&mut self, a: u32, b: u32) -> Result<(), StoreFault> {
@@ -78,7 +70,7 @@ impl EditableGraph for Narrow {
 impl Narrow {
     /// A graph without joins, of at most `most` joins, and of no more than a table of bits has room for.
     pub fn new(tables: u32, most: u32) -> Narrow
-        ensures empty { rows_graph result.graph.count result.graph.rows ≡ no_joins (clamped tables) }
+        ensures empty { graph_of result.graph ≡ no_joins (clamped tables) }
         ensures narrow { result.most ≡ min most 2016 }
     {
         Narrow {

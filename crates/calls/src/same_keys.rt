@@ -1,4 +1,5 @@
 //! The build request, keys compared, and the stack: the lists, the refusals, and what is left in lent records.
+use super::given::{BLANK, FIRST};
 use super::narrow::Narrow;
 use assembly::build::{Built, build};
 use bits::table::BitTable;
@@ -8,11 +9,7 @@ use keys::key::{KeyFault, same_key};
 use memory::stack::Stack;
 use refusals::build::BuildFault;
 use std::process::Abort;
-use theory::step::{Step, Triangle};
-
-const BLANK: Step = Step::Edge { v: 7, w: 7 };
-
-const FIRST: Triangle = Triangle { a: 0, b: 1, c: 2 };
+use theory::step::Step;
 
 /// All joins of the first four tables.
 fn complete<G: EditableGraph>(rt: &impl Abort, graph: &mut G) {

@@ -1,53 +1,42 @@
 //! The program `replay`, from bytes to bytes.
-//! stays: helpers with the names of those of the other program's tests; a crate between them would have to promise in public
-//! what only tests need. Texts of different lengths fit no chunks, and a length or a place in a text is what is tested.
+//! stays: a length or a place in a text is what is tested.
 use programs::replay::replay_text;
 use std::alloc::{AllocError, Global};
 use std::process::Abort;
 use std::test::Fail;
 use theory::step::Step;
 
+// stays: also in `calls`: a crate between the two would have to promise in public what only tests need
 const FIVE: &[u8] =
     b"H    5    6    3\nT    0    1    2\nN    3    0    2\nE         1    3\nN    4    0    3\n";
 
-/// Lays bytes over the text, and says where the next ones go.
-fn lay(rt: &impl Abort, text: &mut [u8; 36465], at: usize, bytes: &[u8]) -> usize {
-    let len = bytes.len();
-    assert!(rt; at <= 36000 && len <= 400);
-    text[at..at + len].copy_from_slice(bytes);
-    at + len
-}
-
-/// Whether the program prints `expected` for a text, given in two parts.
-fn prints_both(rt: &impl Abort, first: &[u8], second: &[u8], expected: &[u8]) {
+/// Whether the program prints `expected` for a list.
+// stays: also in `assemble_cases`: a crate between the two would have to promise in public what only tests need
+fn replays(rt: &impl Abort, list: &[u8], expected: &[u8]) {
     let mut text = [0u8; 36465];
     let mut steps = [Step::Edge { v: 0, w: 0 }; 2013];
-    let middle = lay(rt, &mut text, 0, first);
-    let len = lay(rt, &mut text, middle, second);
+    let len = list.len();
+    assert!(rt; len <= 36465);
+    text[..len].copy_from_slice(list);
     let n = replay_text(&mut text, len, &mut steps);
     assert!(rt; n <= 36465);
-    assert_eq!(rt; &text[0..n], expected);
-}
-
-/// The same for a whole text.
-fn prints(rt: &impl Abort, text: &[u8], expected: &[u8]) {
-    prints_both(rt, text, b"", expected);
+    assert_eq!(rt; &text[..n], expected);
 }
 
 /// A list of five tables, the complete graph of four, and a triangle alone.
 #[test]
 fn graphs(rt: HostRuntime) {
-    prints(
+    replays(
         &rt,
         FIVE,
         b"G    5    6     \nJ         0    1\nJ         0    4\nJ         1    2\nJ         1    3\nJ         2    3\nJ         3    4\n",
     );
-    prints(
+    replays(
         &rt,
         b"H    4    6    3\nT    0    1    2\nN    3    0    2\nE         0    2\nE         1    3\n",
         b"G    4    6     \nJ         0    1\nJ         0    2\nJ         0    3\nJ         1    2\nJ         1    3\nJ         2    3\n",
     );
-    prints(
+    replays(
         &rt,
         b"H    3    3    0\nT    0    1    2\n",
         b"G    3    3     \nJ         0    1\nJ         0    2\nJ         1    2\n",
@@ -131,19 +120,13 @@ const REFUSALS: &[u8] = b"\
 
 #[test]
 fn refusals(rt: HostRuntime) {
-    let mut rest = REFUSALS;
-    while let Some(lines) = rest
-        .as_chunks::<17>()
-        .0
-        .iter()
-        .position(|line| line[0] == b'X')
-    {
-        let (text, behind) = rest.split_at(17 * lines);
-        let (refusal, others) = behind.split_at(17);
-        prints(&rt, text, refusal);
-        rest = others;
-    }
+    let (lines, rest) = REFUSALS.as_chunks::<17>();
     assert!(rt; rest.is_empty());
+    for lines in lines.split_inclusive(|line| line[0] == b'X') {
+        if let Some((refusal, text)) = lines.split_last() {
+            replays(&rt, text.as_flattened(), refusal);
+        }
+    }
 }
 
 /// Lines, each with the X line that it gives where it stands after the list of five tables: a line in form is refused by
@@ -242,11 +225,13 @@ const FORMS: &[u8] = b"\
 ";
 
 #[test]
-fn forms(rt: HostRuntime) {
+fn forms(rt: HostRuntime) -> Result<(), Fail> {
     assert_eq!(rt; FORMS.len(), 34 * 45);
     for [line, refusal] in FORMS.as_chunks::<17>().0.as_chunks::<2>().0 {
-        prints_both(&rt, FIVE, line, refusal);
+        let list = [FIVE, line.as_slice()].concat(rt.alloc())?;
+        replays(&rt, &list, refusal);
     }
+    Ok(())
 }
 
 /// The line of refusal 15 at a place.
@@ -258,7 +243,7 @@ fn bad_form(alloc: Global, place: usize) -> Result<String, AllocError> {
 #[test]
 fn cut_off(rt: HostRuntime) -> Result<(), Fail> {
     for len in 0..FIVE.len() {
-        prints(&rt, &FIVE[0..len], bad_form(rt.alloc(), len)?.as_bytes());
+        replays(&rt, &FIVE[0..len], bad_form(rt.alloc(), len)?.as_bytes());
     }
     Ok(())
 }
@@ -274,62 +259,56 @@ fn damaged(rt: HostRuntime) -> Result<(), Fail> {
             let mut input = [0u8; 85];
             input.copy_from_slice(FIVE);
             input[at] = byte;
-            prints(&rt, &input, bad_form(rt.alloc(), at)?.as_bytes());
+            replays(&rt, &input, bad_form(rt.alloc(), at)?.as_bytes());
         }
     }
     Ok(())
 }
 
 /// A line of two tables.
-fn pair(alloc: Global, letter: char, v: usize, w: usize) -> Result<String, AllocError> {
+// stays: also in `assemble_cases`: a crate between the two would have to promise in public what only tests need
+fn pair(alloc: Global, letter: char, (v, w): (u32, u32)) -> Result<String, AllocError> {
     format!(in alloc; "{letter}{v:>10}{w:>5}\n")
 }
 
 /// The largest list: each table from 3 on is put into the join of 0 and 1, which is then joined again, and is joined with
 /// the tables from 2 on that are below it.
-fn largest(rt: &(impl Abort + AllocGlobal), text: &mut [u8; 36465]) -> Result<usize, AllocError> {
-    let mut at = lay(rt, text, 0, b"H   64 2016 2013\nT    0    1    2\n");
-    for u in 3..64usize {
-        let node = format!(in rt.alloc(); "N{u:>5}    0    1\n")?;
-        at = lay(rt, text, at, node.as_bytes());
-        at = lay(rt, text, at, pair(rt.alloc(), 'E', 0, 1)?.as_bytes());
+fn largest(alloc: Global) -> Result<String, AllocError> {
+    let mut list = String::from_str(alloc, "H   64 2016 2013\nT    0    1    2\n")?;
+    for u in 3..64u32 {
+        list.push_str(&format!(in alloc; "N{u:>5}    0    1\n")?)?;
+        list.push_str(&pair(alloc, 'E', (0, 1))?)?;
         for w in 2..u {
-            at = lay(rt, text, at, pair(rt.alloc(), 'E', u, w)?.as_bytes());
+            list.push_str(&pair(alloc, 'E', (u, w))?)?;
         }
     }
-    Ok(at)
+    Ok(list)
 }
 
 /// It gives all 2,016 joins of 64 tables.
 #[test]
 fn largest_list(rt: HostRuntime) -> Result<(), Fail> {
-    let mut text = [0u8; 36465];
-    let mut steps = [Step::Edge { v: 0, w: 0 }; 2013];
-    assert_eq!(rt; largest(&rt, &mut text)?, 34255);
-    assert_eq!(rt; replay_text(&mut text, 34255, &mut steps), 34289);
-    assert_eq!(rt; &text[0..17], b"G   64 2016     \n".as_slice());
-    let mut lines = text[17..34289].as_chunks::<17>().0.iter();
-    for v in 0..64usize {
+    let list = largest(rt.alloc())?;
+    let mut graph = String::from_str(rt.alloc(), "G   64 2016     \n")?;
+    for v in 0..64u32 {
         for w in v + 1..64 {
-            let expected = pair(rt.alloc(), 'J', v, w)?;
-            assert_eq!(rt;
-                lines.next().map(|line| line.as_slice()),
-                Some(expected.as_bytes())
-            );
+            graph.push_str(&pair(rt.alloc(), 'J', (v, w))?)?;
         }
     }
-    assert!(rt; lines.next().is_none());
+    assert_eq!(rt; list.len(), 34255);
+    assert_eq!(rt; graph.len(), 34289);
+    replays(&rt, list.as_bytes(), graph.as_bytes());
     Ok(())
 }
 
 /// One line more is refused, whatever its bytes past the first 17 are.
 #[test]
 fn more_than_largest(rt: HostRuntime) -> Result<(), Fail> {
+    let mut list = largest(rt.alloc())?;
+    list.push_str(&pair(rt.alloc(), 'E', (0, 1))?)?;
     let mut text = [0u8; 36465];
-    let mut steps = [Step::Edge { v: 0, w: 0 }; 2013];
-    let at = largest(&rt, &mut text)?;
-    let _ = lay(&rt, &mut text, at, pair(rt.alloc(), 'E', 0, 1)?.as_bytes());
-    assert_eq!(rt; replay_text(&mut text, 36465, &mut steps), 17);
-    assert_eq!(rt; &text[0..17], b"X   16    134255\n".as_slice());
+    assert!(rt; list.len() <= 36465);
+    text[..list.len()].copy_from_slice(list.as_bytes());
+    replays(&rt, &text, b"X   16    134255\n");
     Ok(())
 }

@@ -3,10 +3,10 @@
 --   set_count       after one record is set: its table's count, or another's
 --   new_count       in a new catalogue no count is known
 --   set_ranged      a stored number within its range stands for no count out of range
-use Rattle.std.proofs.Common.{◌≡◌, ℕ, zero, suc, ◌<◌, ◌≤◌, Bool, true, false, cond, eqb, ltb, List, Some, None, length, get_or, set, replicate, ℤ, pos, negsuc, sym, refl, ap, ◌∙◌, arith}
-use Rattle.std.proofs.lemmas.List.{get_or-set_same, get_or-set_other}
+use Rattle.std.proofs.Common.{◌≡◌, ℕ, ◌<◌, ◌≤◌, Bool, true, false, cond, eqb, ltb, List, Some, None, length, get_or, set, replicate, ℤ, pos, negsuc, sym, refl, ap, ◌∙◌, arith}
+use Rattle.std.proofs.lemmas.List.{get_or-replicate, get_or-set_same, get_or-set_other}
 use Rattle.std.proofs.lemmas.Option.{none-some}
-use Rattle.std.proofs.lemmas.Bool.{eqb-true, eqb-false, ltb-false, lt-ltb}
+use Rattle.std.proofs.lemmas.Bool.{eqb-true, eqb-false, ltb-true, ltb-false, lt-ltb}
 use Rattle.catalogue.specs.Rows.{stored_count, out_of_range, unknown, count_of}
 use Rattle.catalogue.specs.declared.catalogue.RowRecord.{RowRecord}
 
@@ -20,17 +20,12 @@ set_count l t x r h long true e =
     ∙ ap (λ (s : RowRecord). s.count) (get_or-set_same l t r unknown (omega arith))
 set_count l t x r h long false e = ap (λ (s : RowRecord). cond (ltb x 64) s.count None) (get_or-set_other l t x r unknown (eqb-false x t e))
 
-all_unknown : (k t : ℕ) → get_or (replicate k unknown) t unknown ≡ unknown
-all_unknown zero t = refl
-all_unknown (suc k) zero = refl
-all_unknown (suc k) (suc t) = all_unknown k t
-
-either_way : {A : Type 0} (b : Bool) (x : A) → cond b x x ≡ x
-either_way true x = refl
-either_way false x = refl
-
 pub new_count : (t : ℕ) → count_of (replicate 64 unknown) t ≡ None
-new_count t = ap (λ (s : RowRecord). cond (ltb t 64) s.count None) (all_unknown 64 t) ∙ either_way (ltb t 64) None
+new_count t = by (ltb t 64) refl
+  where
+    by : (b : Bool) → ltb t 64 ≡ b → cond b (get_or (replicate 64 unknown) t unknown).count None ≡ None
+    by true h = ap (λ (r : RowRecord). r.count) (get_or-replicate 64 t unknown unknown (ltb-true t 64 h))
+    by false h = refl
 
 stored_ranged : (z : ℤ) (n : ℕ) → out_of_range z ≡ false → stored_count z ≡ Some n → n ≤ 2147483647
 stored_ranged (pos k) n h e = let is : k ≡ n = cc in let low : k ≤ 2147483647 = ltb-false 2147483647 k h in omega arith

@@ -5,7 +5,8 @@ ghost use Rattle.catalogue.specs.Rows.{stored_count, out_of_range, row_record, s
 use super::fault::RowFault;
 
 /// What is kept of one table.
-// stays: a table's record is lent to its setter, whatever else it may come to hold
+// stays: a rule of the project: sixty-four records, of which one is lent by `&mut` to its setter, whatever else a record may come to
+// hold
 #[derive(Clone, Copy, PartialEq, Eq, Debug)]
 pub struct RowRecord {
     /// The number of its rows, from 0 to 2,147,483,647, where that is known.
@@ -33,9 +34,11 @@ pub struct Catalogue {
 }
 
 impl Catalogue {
+    ghost use Rattle.catalogue.specs.Records.{records_of};
+
     /// A catalogue in which no count is known.
     pub fn new() -> Catalogue
-        ensures { result.records ≡ replicate 64 unknown }
+        ensures { records_of result ≡ replicate 64 unknown }
     {
         Catalogue {
             records: [RowRecord { count: None }; 64],
@@ -44,16 +47,17 @@ impl Catalogue {
 
     /// The count of a table where it is known, and none for a number not below 64.
     pub fn get(&self, table: u32) -> Option<u32>
-        ensures { result ≡ count_of self.now.records table }
+        ensures { result ≡ count_of (records_of self.now) table }
     {
         self.records.get(table as usize)?.count
     }
 
     /// Lends the table's record to its setter.
-    // stays: a table and its stored number travel from the line that names them to the record, and are nothing together
+    // stays: table and number are the two arguments of the public `set`; a pair of them would be made for one call, and taken apart
+    // in it
     fn put(&mut self, table: u32, stored: i64)
         requires { (table < 64) × (out_of_range stored ≡ false) }
-        ensures { self.new.records ≡ slice_set self.old.records table (row_record stored) }
+        ensures { records_of self.new ≡ slice_set (records_of self.old) table (row_record stored) }
     {
         let record = &mut self.records[table as usize];
         record.store(stored);
@@ -62,14 +66,14 @@ impl Catalogue {
     /// Sets one table's record to what a stored number stands for, or refuses and changes nothing.
     pub fn set(&mut self, table: u32, stored: i64) -> Result<(), RowFault>
         ensures answer { result ≡ set_answer table stored }
-        ensures records { self.new.records ≡ records_after result self.old.records table stored }
+        ensures records { records_of self.new ≡ records_after result (records_of self.old) table stored }
         // in other words: this table's count is the stored one, and every other is as it was
-        ensures one { SetsOne self.old.records self.new.records table stored result }
+        ensures one { SetsOne (records_of self.old) (records_of self.new) table stored result }
     {
         if table >= 64 {
             return Err(RowFault::UnknownTable { table });
         }
-        if stored < -1 || stored > 2147483647 {
+        if !(-1..=2147483647).contains(&stored) {
             return Err(RowFault::OutOfRange { table, stored });
         }
         self.put(table, stored);

@@ -1,5 +1,5 @@
 //! Why a row count is refused.
-//! stays: the numbers are those of the X lines; a definition gives each case its own, so they stand written out.
+//! stays: the numbers are those of the X lines. An enum whose cases carry values gives none by `as`, so a match does.
 ghost use Rattle.std.specs.Prelude.{◌≡◌};
 ghost use Rattle.catalogue.specs.Fault.{row_number, row_values};
 
@@ -24,6 +24,7 @@ impl RowFault {
     }
 
     /// The table, and the stored number, or 0 where it is not at fault.
+    // stays: callers are promised two numbers; who wants to know which of them a case names matches the case
     pub fn values(self) -> [i64; 2]
         ensures { result ≡ row_values self }
     {

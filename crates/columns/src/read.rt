@@ -15,6 +15,7 @@ struct Count {
 }
 
 /// At most ten digits are read.
+// stays: a sign comes before its first digit, and minus zero is no signed number, so sign and value are two
 // stays: the definitions go from one pair to the next; over the struct itself each of them would have to carry the bound
 impl Model for Count {
     ghost use Rattle.std.specs.Prelude.{Bool, ℕ, ◌≤◌};
@@ -64,20 +65,21 @@ impl<'a> Field<'a> {
     }
 
     /// One of the five places of a number, after places of the value `v`.
+    // stays: the first bad place is told, which `str::parse` does not tell; `mark` differs in sign, width and the type of its value
     fn place(self, k: usize, v: u32) -> Result<u32, BadByte>
         requires within { k ≤ 4 }
         requires low { v ≤ 99999 }
         ensures answer { result ≡ place_at self.entry.text.now (self.entry.at + k) (4 - k) v }
         ensures small { IfOk result (λ w. w ≤ v * 10 + 9) }
     {
-        let after = 4 - k;
-        let b = self.byte(k);
-        if b.is_ascii_digit() && !(v == 0 && b == b'0' && after != 0) {
-            Ok(v * 10 + (b - b'0') as u32)
-        } else if b == b' ' && v == 0 && after != 0 {
-            Ok(v)
-        } else {
-            Err(self.bad(k))
+        // whether the number may begin at a later place
+        let leads = v == 0 && k != 4;
+        let c = self.byte(k) as char;
+        match c.to_digit(10) {
+            Some(0) if leads => Err(self.bad(k)),
+            Some(digit) => Ok(v * 10 + digit),
+            None if c == ' ' && leads => Ok(v),
+            None => Err(self.bad(k)),
         }
     }
 
@@ -133,23 +135,19 @@ impl<'a> Field<'a> {
         ensures small { IfOk result (λ w. w.1 ≤ s.1 * 10 + 9) }
         ensures below { IfOk result (λ w. k ≡ 9 → w.0 ≡ true → 1 ≤ w.1) }
     {
-        let after = 9 - k;
-        let b = self.byte(k);
         let Count { minus, value } = s;
-        if b.is_ascii_digit() && !(value == 0 && b == b'0' && (minus || after != 0)) {
-            Ok(Count {
+        // whether the number, its sign before it, may begin at a later place
+        let leads = value == 0 && !minus && k != 9;
+        let c = self.byte(k) as char;
+        match c.to_digit(10) {
+            Some(0) if value == 0 && (minus || k != 9) => Err(self.bad(k)),
+            Some(digit) => Ok(Count {
                 minus,
-                value: value * 10 + (b - b'0') as u64,
-            })
-        } else if b == b' ' && value == 0 && after != 0 && !minus {
-            Ok(Count {
-                minus: false,
-                value,
-            })
-        } else if b == b'-' && !minus && value == 0 && after != 0 {
-            Ok(Count { minus: true, value })
-        } else {
-            Err(self.bad(k))
+                value: value * 10 + u64::from(digit),
+            }),
+            None if c == ' ' && leads => Ok(s),
+            None if c == '-' && leads => Ok(Count { minus: true, value }),
+            None => Err(self.bad(k)),
         }
     }
 
@@ -313,6 +311,7 @@ impl<'a> Start<'a> {
     }
 
     /// The fields of a layout.
+    // stays: a match on the value's own cases
     fn fields(self, layout: Layout) -> Result<Fields, BadByte>
         ensures { result ≡ fields_at layout self.entry.text.now (self.entry.at + 1) }
     {

@@ -1,21 +1,19 @@
 -- The steps of the replay's inner functions, over plain values: what their answers and their graphs come to.
-use Rattle.std.proofs.Common.{◌≡◌, ℕ, zero, suc, ◌+◌, ◌-◌, ◌<◌, ◌≤◌, Bool, true, false, cond, not, ◌&&◌, ◌||◌, eqb, ltb, leb, List, [], ◌∷◌, length, get_or, set, take, replicate, Ok, Err, Result, sym, refl, ap, ◌∙◌, subst, ⊎_elim, arith, get_or-set_other, get_or-set_same, length-take}
-use Rattle.std.specs.List.{AllWithin, HoldsAt}
-use Rattle.std.proofs.lemmas.List.{get_or-take}
+use Rattle.std.proofs.Common.{◌≡◌, ℕ, zero, suc, ◌+◌, ◌-◌, ◌<◌, ◌≤◌, Bool, true, false, cond, not, ◌&&◌, ◌||◌, eqb, ltb, leb, [], ◌∷◌, Ok, Err, Result, sym, refl, ap, ◌∙◌, ⊎_elim, arith}
 use Rattle.std.proofs.lemmas.Bool.Decides.{nat_tests}
-use Rattle.std.proofs.lemmas.Bool.{cases_Bool, cases_eq, both_ways, not-false, ltb-true, ltb-false, eqb-false, and_parts, eq-eqb, ne_eqb, lt-ltb, lt-leb}
-use Rattle.theory.specs.Graph.{Graph, Simple, joined, joining, is_table, size, some_join}
+use Rattle.std.proofs.lemmas.Bool.{cases_Bool, both_ways, not-false, ltb-true, ltb-false, eqb-false, and_parts}
+use Rattle.theory.specs.Graph.{Graph, Simple, Lowest, joined, joining, is_table, size, some_join}
 use Rattle.theory.specs.Build.{with_table}
 use Rattle.theory.specs.declared.step.Step.TheVariants.{Edge, Node}
 use Rattle.theory.specs.declared.step.Triangle.{Triangle}
 use Rattle.theory.proofs.Sizes.{joining_simple, joining_size}
 use Rattle.graph.specs.First.{refused_first}
-use Rattle.graph.specs.Store.{join_answer, unjoin_answer, after}
+use Rattle.graph.specs.Store.{join_answer, after}
 use Rattle.graph.specs.declared.fault.StoreFault.{StoreFault}
 use Rattle.graph.specs.declared.fault.StoreFault.TheVariants.{UnknownTable, SameTable, AlreadyJoined, NotJoined, Full}
 use Rattle.graph.specs.Fault.{marked}
 use Rattle.construction.specs.Replay.{start_answer, started, step_answer, step_after, close_from}
-use Rattle.construction.specs.Inner.{flagged, building, left, WithinUse, triangle_answer, corners, edge_used, node_conditions, node_judged, held_answer, splice_conditions, splice_answer, spliced}
+use Rattle.construction.specs.Inner.{building, left, WithinUse, edge_used, node_conditions, node_judged, held_answer, splice_conditions, splice_answer, spliced}
 use Rattle.graph.specs.declared.fault.At.{At}
 use Rattle.refusals.specs.declared.fault.ReplayFault.{ReplayFault}
 use Rattle.refusals.specs.declared.fault.ReplayFault.TheVariants.{Store, HasJoins, NotTriangle, InUse, NotInUse, Unused}
@@ -59,34 +57,15 @@ module _ (k : ℕ) (r : Result Unit StoreFault) (o : Result Unit (At StoreFault)
 pub became : (m m' changed : Graph) (r : Result Unit StoreFault) → m' ≡ after r changed m → r ≡ Ok tt → m' ≡ changed
 became m m' changed r e ok = e ∙ ap (λ x. after x changed m) ok
 
-pub as_before : (m m' changed : Graph) (r : Result Unit StoreFault) (f : StoreFault) → m' ≡ after r changed m → r ≡ Err f → m' ≡ m
-as_before m m' changed r f e broke = e ∙ ap (λ x. after x changed m) broke
-
 pub join_at : (m m' : Graph) (c c' a b : ℕ) → m' ≡ m → c' ≡ c → join_answer m' c' a b ≡ join_answer m c a b
 join_at m m' c c' a b e h = ap (λ x. join_answer x c' a b) e ∙ ap (λ x. join_answer m x a b) h
 
-pub unjoin_at : (m m' : Graph) (a b : ℕ) → m' ≡ m → unjoin_answer m' a b ≡ unjoin_answer m a b
-unjoin_at m m' a b e = ap (λ x. unjoin_answer x a b) e
-
--- ---- flags
-
-pub flag_up : (f : List Bool) (i : ℕ) → i < length f → (x : ℕ) → flagged (set f i true) x ≡ with_table i (flagged f) x
-flag_up f i l x =
-    ⊎_elim
-    (λ (e : i ≡ x). ap (λ k. get_or (set f i true) k false) (sym e) ∙ get_or-set_same f i true false l ∙ sym (ap (λ b. b || flagged f x) (eq-eqb i x e)))
-    (λ (ne : i ≡ x → ⊥). get_or-set_other f i x true false (λ e. ne (sym e)) ∙ sym (ap (λ b. b || flagged f x) (ne_eqb i x ne)))
-    (cases_eq i x)
+-- ---- builds
 
 pub same_building : (m m' : Graph) (U U' : ℕ → Bool) → m ≡ m' → ((x : ℕ) → U x ≡ U' x) → building m U ≡ building m' U'
 same_building m m' U U' e h = λ i. record { graph = e i; used = λ x. h x i }
 
 -- ---- the triangle
-
--- the start's answer from what the store says of itself
-pub start_at : (m : Graph) (c : ℕ) (t : Triangle) (some : Bool) (n c' : ℕ) (r : Result Unit ReplayFault) → r ≡ triangle_answer some n c' t
-    → some ≡ some_join m → n ≡ m.tables → c' ≡ c → r ≡ start_answer m c t
-start_at m c t some n c' r is e f h =
-    is ∙ ap (λ x. triangle_answer x n c' t) e ∙ ap (λ x. triangle_answer (some_join m) x c' t) f ∙ ap (λ x. triangle_answer (some_join m) m.tables x t) h
 
 pub record Startable (m : Graph) (c : ℕ) (t : Triangle) : Type 0 where
   pub clear : (a b : ℕ) → m.adj a b ≡ false
@@ -112,7 +91,7 @@ startable m c t s h =
 
 module _ (m : Graph) (c : ℕ) (t : Triangle) (s : Simple m) (h : Startable m c t) where
   -- the three joins, each with what it leaves
-  pub first_laid : join_answer m c t.a t.b ≡ Ok tt
+  first_laid : join_answer m c t.a t.b ≡ Ok tt
   first_laid =
       let z : size m ≡ 0 = no_size m h.clear in
       let r : 3 ≤ c = h.room in
@@ -137,7 +116,7 @@ module _ (m : Graph) (c : ℕ) (t : Triangle) (s : Simple m) (h : Startable m c 
       let n : m.adj t.a t.c ≡ false = h.clear t.a t.c in
       grind (arith, nat_tests)
 
-  pub second_laid : join_answer (joining m t.a t.b) c t.a t.c ≡ Ok tt
+  second_laid : join_answer (joining m t.a t.b) c t.a t.c ≡ Ok tt
   second_laid =
       let z : size (joining m t.a t.b) ≡ 1 = one_size in
       let r : 3 ≤ c = h.room in
@@ -163,7 +142,7 @@ module _ (m : Graph) (c : ℕ) (t : Triangle) (s : Simple m) (h : Startable m c 
       let n : m.adj t.b t.c ≡ false = h.clear t.b t.c in
       grind (arith, nat_tests)
 
-  pub third_laid : join_answer (joining (joining m t.a t.b) t.a t.c) c t.b t.c ≡ Ok tt
+  third_laid : join_answer (joining (joining m t.a t.b) t.a t.c) c t.b t.c ≡ Ok tt
   third_laid =
       let z : size (joining (joining m t.a t.b) t.a t.c) ≡ 2 = two_size in
       let r : 3 ≤ c = h.room in
@@ -183,30 +162,24 @@ module _ (m : Graph) (c : ℕ) (t : Triangle) (s : Simple m) (h : Startable m c 
       = joining_size (joining (joining m t.a t.b) t.a t.c) t.b t.c (omega arith) (omega arith) (omega arith) two_simple third_free in
       omega arith
 
--- the flags after the triangle
-pub all_down : (n k : ℕ) → flagged (replicate n false) k ≡ false
-all_down zero k = refl
-all_down (suc n) zero = refl
-all_down (suc n) (suc k) = all_down n k
+-- the three joins of an accepted triangle: each is accepted where those before it were made
+module _ (m : Graph) (c : ℕ) (t : Triangle) (s : Simple m) (ok : start_answer m c t ≡ Ok tt) where
+  pub first_goes : join_answer m c t.a t.b ≡ Ok tt
+  first_goes = first_laid m c t s (startable m c t s ok)
 
-pub three_up : (f : List Bool) (t : Triangle) → ((k : ℕ) → flagged f k ≡ false) → t.a < length f → t.b < length (set f t.a true) → t.c < length (set (set f t.a true) t.b true)
-    → (x : ℕ) → flagged (set (set (set f t.a true) t.b true) t.c true) x ≡ corners t x
-three_up f t down la lb lc x =
-    flag_up (set (set f t.a true) t.b true) t.c lc x
-    ∙ ap (λ v. eqb t.c x || v) (flag_up (set f t.a true) t.b lb x)
-    ∙ ap (λ v. eqb t.c x || (eqb t.b x || v)) (flag_up f t.a la x)
-    ∙ ap (λ v. eqb t.c x || (eqb t.b x || (eqb t.a x || v))) (down x)
-    ∙ turned (eqb t.a x) (eqb t.b x) (eqb t.c x)
-  where
-    turned : (p q r : Bool) → (r || (q || (p || false))) ≡ (p || (q || (r || false)))
-    turned true true true = refl
-    turned true true false = refl
-    turned true false true = refl
-    turned true false false = refl
-    turned false true true = refl
-    turned false true false = refl
-    turned false false true = refl
-    turned false false false = refl
+  module _ (m₁ : Graph) (c₁ : ℕ) (r₁ : Result Unit StoreFault) (is₁ : r₁ ≡ join_answer m c t.a t.b) (meant₁ : m₁ ≡ after r₁ (joining m t.a t.b) m) (same₁ : c₁ ≡ c) where
+    one_made : m₁ ≡ joining m t.a t.b
+    one_made = became m m₁ (joining m t.a t.b) r₁ meant₁ (is₁ ∙ first_goes)
+
+    pub second_goes : join_answer m₁ c₁ t.a t.c ≡ Ok tt
+    second_goes = join_at (joining m t.a t.b) m₁ c c₁ t.a t.c one_made same₁ ∙ second_laid m c t s (startable m c t s ok)
+
+    module _ (m₂ : Graph) (c₂ : ℕ) (r₂ : Result Unit StoreFault) (is₂ : r₂ ≡ join_answer m₁ c₁ t.a t.c) (meant₂ : m₂ ≡ after r₂ (joining m₁ t.a t.c) m₁) (same₂ : c₂ ≡ c₁) where
+      two_made : m₂ ≡ joining (joining m t.a t.b) t.a t.c
+      two_made = became m₁ m₂ (joining m₁ t.a t.c) r₂ meant₂ (is₂ ∙ second_goes) ∙ ap (λ x. joining x t.a t.c) one_made
+
+      pub third_goes : join_answer m₂ c₂ t.b t.c ≡ Ok tt
+      third_goes = join_at (joining (joining m t.a t.b) t.a t.c) m₂ c c₂ t.b t.c two_made (same₂ ∙ same₁) ∙ third_laid m c t s (startable m c t s ok)
 
 -- ---- an edge step
 
@@ -237,41 +210,30 @@ edge_stops k v w c y true true false true false j f h = h
 edge_stops k v w c y true true false true true j f h = absurd (ok_err y h)
 
 module _ (c k : ℕ) (m : Graph) (U : ℕ → Bool) (v w : ℕ) (judged : Result Unit ReplayFault) (is : judged ≡ edge_used m.tables U k v w) where
-  -- the flags refuse
+  -- a table is not in use
   pub edge_judged : (a y : ReplayFault) (final : Result Unit ReplayFault) → judged ≡ Err a → final ≡ Err y → y ≡ a
-      → (final ≡ step_answer c k (building m U) (Edge v w))
-      × (building m U ≡ left final (step_after (building m U) (Edge v w)) (building m U))
+      → final ≡ step_answer c k (building m U) (Edge v w)
   unfolding step_answer
   edge_judged a y final broke gave by =
-      let e : final ≡ Err a = gave ∙ ap (λ z. Err z) by in (
-        e ∙ sym (edge_stops k v w c a (is_table m v) (is_table m w) (eqb v w) (U v) (U w) (joined m v w) (leb c (size m)) (sym is ∙ broke)),
-        sym (ap (λ r. left r (step_after (building m U) (Edge v w)) (building m U)) e),
-      )
+      gave ∙ ap (λ z. Err z) by ∙ sym (edge_stops k v w c a (is_table m v) (is_table m w) (eqb v w) (U v) (U w) (joined m v w) (leb c (size m)) (sym is ∙ broke))
 
-  -- the flags accept, so that the store's answer is the step's
-  pub edge_carried : judged ≡ Ok tt → step_answer c k (building m U) (Edge v w) ≡ carried k (join_answer m c v w)
-  unfolding step_answer
-  edge_carried ok = edge_flat k v w c (is_table m v) (is_table m w) (eqb v w) (U v) (U w) (joined m v w) (leb c (size m)) (sym is ∙ ok)
+  module _ (ok : judged ≡ Ok tt) where
+    -- both are in use, so that the store's answer is the step's
+    edge_carried : step_answer c k (building m U) (Edge v w) ≡ carried k (join_answer m c v w)
+    unfolding step_answer
+    edge_carried = edge_flat k v w c (is_table m v) (is_table m w) (eqb v w) (U v) (U w) (joined m v w) (leb c (size m)) (sym is ∙ ok)
 
-pub edge_refused : (c k : ℕ) (m m' : Graph) (U : ℕ → Bool) (v w : ℕ) (r : Result Unit StoreFault) (f : StoreFault) (final : Result Unit ReplayFault)
-    → step_answer c k (building m U) (Edge v w) ≡ carried k (join_answer m c v w)
-    → r ≡ join_answer m c v w → m' ≡ after r (joining m v w) m → r ≡ Err f → final ≡ carried k r
-    → (final ≡ step_answer c k (building m U) (Edge v w))
-    × (building m' U ≡ left final (step_after (building m U) (Edge v w)) (building m U))
-edge_refused c k m m' U v w r f final whole is meant broke gave = (
-  gave ∙ ap (carried k) is ∙ sym whole,
-  same_building m' m U U (as_before m m' (joining m v w) r f meant broke) (λ _. refl)
-      ∙ sym (ap (λ z. left z (step_after (building m U) (Edge v w)) (building m U)) (gave ∙ ap (carried k) broke)),
-)
+    -- the store refuses
+    pub edge_refused : (r : Result Unit StoreFault) (final : Result Unit ReplayFault) → r ≡ join_answer m c v w → final ≡ carried k r
+        → final ≡ step_answer c k (building m U) (Edge v w)
+    edge_refused r final did gave = gave ∙ ap (carried k) did ∙ sym edge_carried
 
-pub edge_taken : (c k : ℕ) (m m' : Graph) (U : ℕ → Bool) (v w : ℕ) (r : Result Unit StoreFault)
-    → step_answer c k (building m U) (Edge v w) ≡ carried k (join_answer m c v w)
-    → r ≡ join_answer m c v w → m' ≡ after r (joining m v w) m → r ≡ Ok tt
-    → (Ok tt ≡ step_answer c k (building m U) (Edge v w))
-    × (building m' U ≡ step_after (building m U) (Edge v w))
-unfolding step_after
-edge_taken c k m m' U v w r whole is meant ok =
-    (ap (carried k) (sym ok ∙ is) ∙ sym whole, same_building m' (joining m v w) U U (became m m' (joining m v w) r meant ok) (λ _. refl))
+    pub edge_taken : (m' : Graph) (r : Result Unit StoreFault) → r ≡ join_answer m c v w → m' ≡ after r (joining m v w) m → r ≡ Ok tt
+        → (Ok tt ≡ step_answer c k (building m U) (Edge v w))
+        × (building m' U ≡ step_after (building m U) (Edge v w))
+    unfolding step_after
+    edge_taken m' r did meant took =
+        (ap (carried k) (sym took ∙ did) ∙ sym edge_carried, same_building m' (joining m v w) U U (became m m' (joining m v w) r meant took) (λ _. refl))
 
 -- ---- a node step
 
@@ -317,75 +279,37 @@ no_neighbours m U u within fresh x = ⊎_elim (λ e. absurd (both_ways (U u) fre
 pub is_held : (m : Graph) (v w : ℕ) → held_answer m v w ≡ Ok tt → m.adj v w ≡ true
 is_held m v w e = not-false (joined m v w) (past (not (joined m v w)) (NotJoined v w) (Ok tt) e).0
 
-module _ (c k : ℕ) (m : Graph) (u v w : ℕ) where
-  -- v and w are not joined
-  pub not_held : (f : StoreFault) (final : Result Unit ReplayFault) → held_answer m v w ≡ Err f → final ≡ carried k (held_answer m v w)
-      → (final ≡ splice_answer m c k v w) × (m ≡ left final (spliced m u v w) m)
-  not_held f final broke gave =
-      (gave ∙ over (joined m v w) broke, sym (ap (λ r. left r (spliced m u v w) m) (gave ∙ ap (carried k) broke)))
-    where
-      over : (j : Bool) → refused_first ((not j, NotJoined v w) ∷ []) ≡ Err f
-          → carried k (refused_first ((not j, NotJoined v w) ∷ [])) ≡ refused_first ((not j, Store k (NotJoined v w)) ∷ (leb c (size m), Store k (Full c)) ∷ [])
-      over true e = absurd (ok_err f e)
-      over false e = refl
-
-  -- the first edit is refused
-  pub no_room : (m' : Graph) (r : Result Unit StoreFault) (f : StoreFault) (final : Result Unit ReplayFault) → u < m.tables → v < m.tables → (u ≡ v → ⊥)
-      → m.adj u v ≡ false → m.adj v w ≡ true → r ≡ join_answer m c u v → m' ≡ after r (joining m u v) m → r ≡ Err f → final ≡ carried k r
-      → (final ≡ splice_answer m c k v w) × (m' ≡ left final (spliced m u v w) m)
-  no_room m' r f final hu hv uv free held is meant broke gave = (
-    gave ∙ ap (carried k) is
-        ∙ rw (lt-ltb u m.tables hu, lt-ltb v m.tables hv, ne_eqb u v uv, free, held) (over (leb c (size m))),
-    as_before m m' (joining m u v) r f meant broke ∙ sym (ap (λ z. left z (spliced m u v w) m) (gave ∙ ap (carried k) broke)),
-  )
-    where
-      over : (b : Bool) → carried k (cond b (Err (Full c)) (Ok tt)) ≡ cond b (Err (Store k (Full c))) (Ok tt)
-      over true = refl
-      over false = refl
-
-  -- all is well
-  pub spliced_ok : m.adj v w ≡ true → size m < c → Ok tt ≡ splice_answer m c k v w
-  spliced_ok held room = sym (rw (held, lt-leb c (size m) room))
-
 module _ (c k : ℕ) (m : Graph) (U : ℕ → Bool) (u v w : ℕ) (judged : Result Unit ReplayFault) (is : judged ≡ node_judged m.tables U k u v w) where
-  pub node_named : judged ≡ Ok tt → Named m.tables U u v w
-  node_named ok = well_named m.tables U k u v w (sym is ∙ ok)
-
-  node_on : judged ≡ Ok tt → step_answer c k (building m U) (Node u v w) ≡ splice_answer m c k v w
-  unfolding step_answer
-  node_on ok = first_on (node_conditions m.tables U k u v w) (splice_conditions m c k v w) (sym is ∙ ok)
-
-  node_off : (f : ReplayFault) → judged ≡ Err f → step_answer c k (building m U) (Node u v w) ≡ Err f
-  unfolding step_answer
-  node_off f e = first_off (node_conditions m.tables U k u v w) (splice_conditions m c k v w) f (sym is ∙ e)
-
   -- the tables are refused
   pub node_refused : (a y : ReplayFault) (final : Result Unit ReplayFault) → judged ≡ Err a → final ≡ Err y → y ≡ a
-      → (final ≡ step_answer c k (building m U) (Node u v w))
-      × (building m U ≡ left final (step_after (building m U) (Node u v w)) (building m U))
+      → final ≡ step_answer c k (building m U) (Node u v w)
+  unfolding step_answer
   node_refused a y final broke gave by =
-      let e : final ≡ Err a = gave ∙ ap (λ z. Err z) by in
-      (e ∙ sym (node_off a broke), sym (ap (λ r. left r (step_after (building m U) (Node u v w)) (building m U)) e))
+      gave ∙ ap (λ z. Err z) by ∙ sym (first_off (node_conditions m.tables U k u v w) (splice_conditions m c k v w) a (sym is ∙ broke))
 
-  -- the joins are refused
-  pub node_full : (m' : Graph) (r : Result Unit ReplayFault) (a y : ReplayFault) (final : Result Unit ReplayFault) → judged ≡ Ok tt
-      → r ≡ splice_answer m c k v w → m' ≡ left r (spliced m u v w) m → r ≡ Err a → final ≡ Err y → y ≡ a
-      → (final ≡ step_answer c k (building m U) (Node u v w))
-      × (building m' U ≡ left final (step_after (building m U) (Node u v w)) (building m U))
-  node_full m' r a y final ok did meant broke gave by =
-      let e : final ≡ Err a = gave ∙ ap (λ z. Err z) by in (
-        e ∙ sym broke ∙ did ∙ sym (node_on ok),
-        same_building m' m U U (meant ∙ ap (λ z. left z (spliced m u v w) m) broke) (λ _. refl)
-            ∙ sym (ap (λ z. left z (step_after (building m U) (Node u v w)) (building m U)) e),
-      )
+  module _ (ok : judged ≡ Ok tt) where
+    -- the tables are accepted, so that the answer on the joins is the step's
+    node_on : step_answer c k (building m U) (Node u v w) ≡ splice_answer m c k v w
+    unfolding step_answer
+    node_on = first_on (node_conditions m.tables U k u v w) (splice_conditions m c k v w) (sym is ∙ ok)
 
-  pub node_taken : (m' : Graph) (U' : ℕ → Bool) (r : Result Unit ReplayFault) → judged ≡ Ok tt
-      → r ≡ splice_answer m c k v w → m' ≡ left r (spliced m u v w) m → r ≡ Ok tt → ((x : ℕ) → U' x ≡ with_table u U x)
-      → (Ok tt ≡ step_answer c k (building m U) (Node u v w))
-      × (building m' U' ≡ step_after (building m U) (Node u v w))
-  unfolding step_after
-  node_taken m' U' r ok did meant took up =
-      (sym took ∙ did ∙ sym (node_on ok), same_building m' (spliced m u v w) U' (with_table u U) (meant ∙ ap (λ z. left z (spliced m u v w) m) took) up)
+    -- the joins are refused
+    pub node_full : (r : Result Unit ReplayFault) (a y : ReplayFault) (final : Result Unit ReplayFault)
+        → r ≡ splice_answer m c k v w → r ≡ Err a → final ≡ Err y → y ≡ a
+        → final ≡ step_answer c k (building m U) (Node u v w)
+    node_full r a y final did broke gave by = gave ∙ ap (λ z. Err z) by ∙ sym broke ∙ did ∙ sym node_on
+
+    pub node_taken : (m' : Graph) (U' : ℕ → Bool) (r : Result Unit ReplayFault)
+        → r ≡ splice_answer m c k v w → m' ≡ left r (spliced m u v w) m → r ≡ Ok tt
+        → m.tables ≤ 64 → ((x : ℕ) → U' x ≡ ((eqb x u && ltb x 64) || U x))
+        → (Ok tt ≡ step_answer c k (building m U) (Node u v w))
+        × (building m' U' ≡ step_after (building m U) (Node u v w))
+    unfolding step_after
+    node_taken m' U' r did meant took few put =
+        (sym took ∙ did ∙ sym node_on, same_building m' (spliced m u v w) U' (with_table u U) (meant ∙ ap (λ z. left z (spliced m u v w) m) took) put_in)
+      where
+        put_in : (x : ℕ) → U' x ≡ with_table u U x
+        put_in x = let here = put x in let l : u < m.tables = (well_named m.tables U k u v w (sym is ∙ ok)).hu in grind (arith, nat_tests)
 
 -- ---- the close
 
@@ -409,20 +333,19 @@ close_at n (suc t) U l up =
     let e : t + 1 ≡ suc t = omega arith in
     close_at n t U (omega arith) (λ k h. up k (omega arith)) ∙ close_more n t U (omega arith) (up t (omega arith)) ∙ ap (λ k. close_from k (n - k) U) e
 
-module _ (n : ℕ) (f : List Bool) (long : n ≤ length f) where
-  -- what holds of the flags that are looked at, by table
-  looked : (t k : ℕ) → t ≤ n → k < t → AllWithin (λ b. b ≡ true) (take n f) 0 t → flagged f k ≡ true
-  looked t k l h up = sym (get_or-take n f k false (omega arith)) ∙ up k false (omega arith) h
+-- V are the tables below n, and W those of them that are not in use
+module _ (n : ℕ) (U V W : ℕ → Bool) (few : n ≤ 64) (all : (x : ℕ) → V x ≡ (ltb x n && ltb x 64)) (unused : (x : ℕ) → W x ≡ (V x && not (U x))) where
+  looked : (k : ℕ) → k < n → W k ≡ false → U k ≡ true
+  looked k h none = let a = all k in let b = unused k in grind (arith, nat_tests)
 
-  pub close_some : (t : ℕ) → (t < length (take n f)) × HoldsAt (λ b. b ≡ false) (take n f) t × AllWithin (λ b. b ≡ true) (take n f) 0 t
-      → Err (Unused t) ≡ close_from 0 n (flagged f)
+  pub close_some : (t : ℕ) → Lowest W 0 t → Err (Unused t) ≡ close_from 0 n U
   close_some t first =
-      let l : t < n = omega (arith, length-take n f, first.0) in
-      let down : flagged f t ≡ false = sym (get_or-take n f t false l) ∙ first.1 false in
-      sym (close_at n t (flagged f) (omega arith) (λ k h. looked t k (omega arith) h first.2) ∙ close_stops n t (flagged f) l down)
+      let a = all t in
+      let b = unused t in
+      let c = first.holds in
+      let l : t < n = ltb-true t n (grind (arith, nat_tests)) in
+      let down : U t ≡ false = grind (arith, nat_tests) in
+      sym (close_at n t U (omega arith) (λ k h. looked k (omega arith) (first.none k (omega arith) h)) ∙ close_stops n t U l down)
 
-  pub close_none : AllWithin (λ b. b ≡ true) (take n f) 0 (length (take n f)) → Ok tt ≡ close_from 0 n (flagged f)
-  close_none up =
-      let e : length (take n f) ≡ n = omega (arith, length-take n f) in
-      sym (close_at n n (flagged f) (omega arith) (λ k h. looked n k (omega arith) h (subst (λ t. AllWithin (λ b. b ≡ true) (take n f) 0 t) e up))
-      ∙ close_ends n n (flagged f) (omega arith))
+  pub close_none : ((x : ℕ) → 0 ≤ x → W x ≡ false) → Ok tt ≡ close_from 0 n U
+  close_none none = sym (close_at n n U (omega arith) (λ k h. looked k h (none k (omega arith))) ∙ close_ends n n U (omega arith))

@@ -1,5 +1,5 @@
 -- Whether a graph has joins, and when a join or an unjoin is accepted.
-use Rattle.std.proofs.Common.{◌≡◌, ℕ, ◌+◌, ◌<◌, ◌≤◌, Bool, true, false, not, ◌&&◌, ◌||◌, eqb, leb, [], ◌∷◌, length, get_or, Ok, sym, ap, ◌∙◌, ⊎_elim, zero-add, arith}
+use Rattle.std.proofs.Common.{◌≡◌, ℕ, ◌+◌, ◌<◌, ◌≤◌, Bool, true, false, not, ◌&&◌, ◌||◌, eqb, leb, length, get_or, Ok, sym, ap, ◌∙◌, ⊎_elim, zero-add, arith}
 use Rattle.std.specs.Bool.{MatchBool}
 use Rattle.std.specs.List.{AllWithin, HoldsAt, range_with_len}
 use Rattle.std.proofs.lemmas.List.FromFn.{length-range_with_len, get_or-range_with_len}
@@ -7,10 +7,7 @@ use Rattle.std.proofs.lemmas.Bool.Decides.{nat_tests}
 use Rattle.std.proofs.lemmas.Bool.{cases_Bool, both_ways, lt-ltb, ne_eqb, lt-leb, leb-false, not-false, eqb-true, or_right}
 use Rattle.theory.specs.Graph.{Graph, Simple, same_pair, joined, joining, unjoining, is_table, size, some_join}
 use Rattle.theory.proofs.Sizes.{pairs_same, no_joins_size, joining_simple, joining_size, unjoining_size}
-use Rattle.graph.specs.First.{refused_first}
-use Rattle.graph.specs.Store.{join_answer, unjoin_answer}
-use Rattle.graph.specs.declared.fault.StoreFault.TheVariants.{NotJoined}
-use Rattle.construction.specs.Inner.{held_answer}
+use Rattle.graph.specs.Store.{join_answer}
 use Rattle.construction.proofs.First.{past}
 
 -- ---- any join at all
@@ -56,9 +53,6 @@ all_clear m s e a b =
 pub join_ok : (m : Graph) (c a b : ℕ) → a < m.tables → b < m.tables → (a ≡ b → ⊥) → m.adj a b ≡ false → size m < c → join_answer m c a b ≡ Ok tt
 join_ok m c a b ha hb ne free room = rw (lt-ltb a m.tables ha, lt-ltb b m.tables hb, ne_eqb a b ne, free, lt-leb c (size m) room)
 
-unjoin_ok : (m : Graph) (a b : ℕ) → a < m.tables → b < m.tables → (a ≡ b → ⊥) → m.adj a b ≡ true → unjoin_answer m a b ≡ Ok tt
-unjoin_ok m a b ha hb ne held = rw (lt-ltb a m.tables ha, lt-ltb b m.tables hb, ne_eqb a b ne, held)
-
 -- there is room where a join has been accepted
 pub join_room : (m : Graph) (c a b : ℕ) → join_answer m c a b ≡ Ok tt → size m < c
 join_room m c a b e =
@@ -67,14 +61,6 @@ join_room m c a b e =
     let e₃ = (past (eqb a b) _ _ e₂).1 in
     let e₄ = (past (joined m a b) _ _ e₃).1 in
     leb-false c (size m) (past (leb c (size m)) _ _ e₄).0
-
--- the second edit of a node step is accepted
-pub second_ok : (m : Graph) (u v w : ℕ) → v < m.tables → w < m.tables → (v ≡ w → ⊥) → m.adj v w ≡ true → unjoin_answer (joining m u v) v w ≡ Ok tt
-second_ok m u v w hv hw vw held = unjoin_ok (joining m u v) v w hv hw vw (or_right (same_pair u v v w) (m.adj v w) held)
-
--- the join that it takes out is there
-pub second_held : (m : Graph) (u v w : ℕ) → m.adj v w ≡ true → held_answer (joining m u v) v w ≡ Ok tt
-second_held m u v w held = ap (λ j. refused_first ((not j, NotJoined v w) ∷ [])) (or_right (same_pair u v v w) (m.adj v w) held)
 
 -- the third edit of a node step finds its pair free
 pub third_free : (m : Graph) (u v w : ℕ) → (u ≡ v → ⊥) → (u ≡ w → ⊥) → (v ≡ w → ⊥) → m.adj u w ≡ false → (unjoining (joining m u v) v w).adj u w ≡ false

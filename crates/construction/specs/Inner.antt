@@ -1,11 +1,9 @@
 -- What the replay's inner functions answer and leave.
 --
---   flagged flags            the tables whose flag is up
 --   building m U             the build of a graph and the tables in use
---   under_way m flags        the same by flags
+--   under_way m used         the same by a set
 --   left r changed same      what an accepted change and a refused one leave
 --   WithinUse m U            every join is between tables in use
---   triangle_answer          the start's answer: from whether there are joins, the number of tables and the capacity
 --   corners t                the three tables of a triangle
 --   used_answer U k v w      13 where v, or else w, is not in use at step k
 --   edge_used n U k v w      the same where v and w are two tables
@@ -16,25 +14,23 @@
 --   splice_conditions        what can be wrong with the joins of a node step
 --   splice_answer            the first of these, or accepted
 --   spliced m u v w          the graph after a node step
-use Rattle.std.specs.Prelude.{◌≡◌, ℕ, Bool, true, false, cond, not, ◌&&◌, List, [], ◌∷◌, Ok, Err, Result, ◌==◌, nat_le, nat_lt, slice_index_or}
+use Rattle.std.specs.Prelude.{◌≡◌, ℕ, Bool, true, cond, not, ◌&&◌, List, [], ◌∷◌, Ok, Err, Result, ◌==◌, nat_le, nat_lt}
 use Rattle.theory.specs.Graph.{Graph, joined, joining, unjoining, size}
 use Rattle.theory.specs.Build.{triangle}
 use Rattle.theory.specs.declared.step.Triangle.{Triangle}
 use Rattle.graph.specs.First.{refused_first}
 use Rattle.graph.specs.declared.fault.StoreFault.{StoreFault}
 use Rattle.graph.specs.declared.fault.StoreFault.TheVariants.{UnknownTable, SameTable, NotJoined, Full}
+use Rattle.sets.specs.Set.{bit}
 use Rattle.construction.specs.Replay.{Building}
 use Rattle.refusals.specs.declared.fault.ReplayFault.{ReplayFault}
-use Rattle.refusals.specs.declared.fault.ReplayFault.TheVariants.{Store, HasJoins, NotTriangle, InUse, NotInUse}
-
-abbrev pub flagged : List Bool → ℕ → Bool
-flagged flags k = slice_index_or flags k false
+use Rattle.refusals.specs.declared.fault.ReplayFault.TheVariants.{Store, InUse, NotInUse}
 
 abbrev pub building : Graph → (ℕ → Bool) → Building
 building m U = record { graph = m; used = U }
 
-abbrev pub under_way : Graph → List Bool → Building
-under_way m flags = building m (flagged flags)
+abbrev pub under_way : Graph → ℕ → Building
+under_way m used = building m (bit used)
 
 abbrev pub left : {X : Type 0} → Result Unit ReplayFault → X → X → X
 left (Ok u) changed same = changed
@@ -42,13 +38,6 @@ left (Err f) changed same = same
 
 abbrev pub WithinUse : Graph → (ℕ → Bool) → Type 0
 WithinUse m U = (x y : ℕ) → joined m x y ≡ true → U x ≡ true
-
-abbrev pub triangle_answer : Bool → ℕ → ℕ → Triangle → Result Unit ReplayFault
-triangle_answer some n capacity t = refused_first
-    ((some, HasJoins)
-    ∷ (not (nat_lt t.a t.b && (nat_lt t.b t.c && nat_lt t.c n)), NotTriangle)
-    ∷ (nat_lt capacity 3, Store 0 (Full capacity))
-    ∷ [])
 
 abbrev pub corners : Triangle → ℕ → Bool
 corners t = (triangle t).in_use

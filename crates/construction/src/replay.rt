@@ -1,23 +1,26 @@
 //! A build list played back into any editable graph: a triangle, steps one after another, and a look at whether all
-//! tables are in use. The tables in use are kept as flags; the joins are kept by the graph alone.
+//! tables are in use. The tables in use are kept as a set; the joins are kept by the graph alone.
 //!
 //! The inner functions are small, one for each thing that is judged or done. Those that change something say in `answer`
 //! what they answer, in `meant` what they leave (a refusal changes nothing), and in `same` that the capacity stays. `same`
 //! stands in each of them.
 //! stays: a caller knows of a graph that it lent no more than the contract of the call says, so each says `same`. The graph and
 //! the tables in use are two parameters: of a struct with the graph in a field each method would owe, besides, that it lends
-//! the same graph on. A step's number and its tables are named one by one, as the cases of `Step` have them.
+//! the same graph on. Where they are only read, they and the tables of a step are parameters of their own: a struct of them
+//! would be made for the call and taken apart in it.
 ghost use Rattle.std.specs.Prelude.{◌≡◌, ℕ, ◌<◌, ◌≤◌, true, false, Ok, ◌≢◌};
 ghost use Rattle.theory.specs.Graph.{joined as joins, table_count, unjoining, some_join};
 ghost use Rattle.theory.specs.declared.step.Step.TheVariants.{Edge, Node};
 ghost use Rattle.graph.specs.Store.{unjoin_answer};
+ghost use Rattle.sets.specs.Set.{bit};
 ghost use Rattle.construction.specs.Replay.{start_answer, started, step_answer, step_after, close_from, replayed};
 ghost use Rattle.construction.specs.Law.{AcceptedExactly, AcceptedWithRoom, RefusedAtFirst, UnusedTold, StartTold};
-ghost use Rattle.construction.specs.Inner.{flagged, under_way, left, WithinUse, triangle_answer, corners, used_answer, edge_used, named_answer, node_judged, held_answer, splice_answer, spliced};
+ghost use Rattle.construction.specs.Inner.{under_way, left, WithinUse, corners, used_answer, edge_used, named_answer, node_judged, held_answer, splice_answer, spliced};
 
 use graph::fault::{At, StoreFault, at_place};
 use graph::graph::{EditableGraph, ReadableGraph};
 use refusals::fault::ReplayFault;
+use sets::set::TableSet;
 use theory::step::{Step, Triangle};
 
 /// Whether a table has a neighbour.
@@ -36,15 +39,16 @@ fn has_joins<G: ReadableGraph>(graph: &G) -> bool
 }
 
 /// What stands against a triangle at the start: 10, 11 and 5.
-fn judge_start(some: bool, tables: u32, capacity: u32, t: Triangle) -> Result<(), ReplayFault>
-    ensures { result ≡ triangle_answer some tables capacity t }
+fn judge_start<G: EditableGraph>(graph: &G, t: Triangle) -> Result<(), ReplayFault>
+    ensures { result ≡ start_answer (G.ReadableGraph.meaning graph.now) (G.limit graph.now) t }
 {
-    if some {
+    if has_joins(graph) {
         return Err(ReplayFault::HasJoins);
     }
-    if !(t.a < t.b && t.b < t.c && t.c < tables) {
+    if !(t.a < t.b && t.b < t.c && t.c < graph.tables()) {
         return Err(ReplayFault::NotTriangle);
     }
+    let capacity = graph.capacity();
     if capacity < 3 {
         return Err(ReplayFault::Store {
             step: 0,
@@ -60,17 +64,34 @@ fn start<G: EditableGraph>(graph: &mut G, t: Triangle) -> Result<(), ReplayFault
     ensures meant { G.ReadableGraph.meaning graph.new ≡ left result (started (G.ReadableGraph.meaning graph.old) t).graph (G.ReadableGraph.meaning graph.old) }
     ensures same { G.limit graph.new ≡ G.limit graph.old }
 {
-    judge_start(has_joins(graph), graph.tables(), graph.capacity(), t)?;
+    judge_start(graph, t)?;
     at_place(0, graph.join(t.a, t.b))?;
     at_place(0, graph.join(t.a, t.c))?;
     at_place(0, graph.join(t.b, t.c))?;
     Ok(())
 }
 
+/// The two tables of a step that have to be in use, with the step's number, by which a refusal names it.
+#[derive(Clone, Copy)]
+struct Ends {
+    step: usize,
+    v: u32,
+    w: u32,
+}
+
+/// A node step: the new table, and the two that it is put between.
+#[derive(Clone, Copy)]
+struct NodeStep {
+    u: u32,
+    ends: Ends,
+}
+
 /// 1 and 2 for the tables of a node step.
-fn named(tables: u32, u: u32, v: u32, w: u32) -> Result<(), StoreFault>
-    ensures { result ≡ named_answer tables u v w }
+fn named(tables: u32, node: NodeStep) -> Result<(), StoreFault>
+    ensures { result ≡ named_answer tables node.u node.ends.v node.ends.w }
 {
+    let NodeStep { u, ends } = node;
+    let Ends { v, w, .. } = ends;
     if u >= tables {
         Err(StoreFault::UnknownTable { table: u })
     } else if v >= tables {
@@ -86,110 +107,86 @@ fn named(tables: u32, u: u32, v: u32, w: u32) -> Result<(), StoreFault>
     }
 }
 
-/// The tables that are in use, as flags. Judging takes the graph, whose number of tables is no more than there are flags.
-#[derive(Drop)]
-struct TablesInUse {
-    flags: [bool; 64],
+/// The tables of a triangle, which are the first in use.
+fn seated(t: Triangle) -> TableSet
+    requires { (t.a < 64) × ((t.b < 64) × (t.c < 64)) }
+    ensures { (x : ℕ) → bit result x ≡ corners t x }
+{
+    TableSet::new().with(t.a).with(t.b).with(t.c)
 }
 
-impl TablesInUse {
-    /// Those of a triangle.
-    fn seated(t: Triangle) -> TablesInUse
-        requires { (t.a < 64) × ((t.b < 64) × (t.c < 64)) }
-        ensures { (x : ℕ) → flagged result.flags x ≡ corners t x }
-    {
-        let mut flags = [false; 64];
-        flags[t.a as usize] = true;
-        flags[t.b as usize] = true;
-        flags[t.c as usize] = true;
-        TablesInUse { flags }
+/// 13 where a table that a step needs is not in use: `v`, or else `w`.
+fn judge_ends(used: TableSet, ends: Ends) -> Result<(), ReplayFault>
+    ensures { result ≡ used_answer (bit used) ends.step ends.v ends.w }
+{
+    let Ends { step, v, w } = ends;
+    if !used.contains(v) {
+        Err(ReplayFault::NotInUse { step, table: v })
+    } else if !used.contains(w) {
+        Err(ReplayFault::NotInUse { step, table: w })
+    } else {
+        Ok(())
     }
+}
 
-    /// 13 where a table that a step needs is not in use: `v`, or else `w`.
-    fn judge_ends(&self, step: usize, v: u32, w: u32) -> Result<(), ReplayFault>
-        requires { (v < 64) × (w < 64) }
-        ensures { result ≡ used_answer (flagged self.now.flags) step v w }
-    {
-        if !self.flags[v as usize] {
-            Err(ReplayFault::NotInUse { step, table: v })
-        } else if !self.flags[w as usize] {
-            Err(ReplayFault::NotInUse { step, table: w })
-        } else {
-            Ok(())
-        }
+/// 13 for an edge step. Where the store will refuse with 1 or 2, which come first, it is left to do so.
+fn judge_edge<G: ReadableGraph>(graph: &G, used: TableSet, ends: Ends) -> Result<(), ReplayFault>
+    ensures { result ≡ edge_used (table_count (G.meaning graph.now)) (bit used) ends.step ends.v ends.w }
+{
+    let tables = graph.tables();
+    if ends.v < tables && ends.w < tables && ends.v != ends.w {
+        judge_ends(used, ends)
+    } else {
+        Ok(())
     }
+}
 
-    /// 13 for an edge step. Where the store will refuse with 1 or 2, which come first, it is left to do so.
-    fn judge_edge<G: ReadableGraph>(
-        &self,
-        graph: &G,
-        step: usize,
-        v: u32,
-        w: u32,
-    ) -> Result<(), ReplayFault>
-        ensures { result ≡ edge_used (table_count (G.meaning graph.now)) (flagged self.now.flags) step v w }
-    {
-        let tables = graph.tables();
-        if v < tables && w < tables && v != w {
-            self.judge_ends(step, v, w)
-        } else {
-            Ok(())
-        }
+/// What can be wrong with the tables of a node step: 1, 2, 12 and 13.
+fn judge_node<G: ReadableGraph>(
+    graph: &G,
+    used: TableSet,
+    node: NodeStep,
+) -> Result<(), ReplayFault>
+    ensures { result ≡ node_judged (table_count (G.meaning graph.now)) (bit used) node.ends.step node.u node.ends.v node.ends.w }
+{
+    let NodeStep { u, ends } = node;
+    at_place(ends.step, named(graph.tables(), node))?;
+    if used.contains(u) {
+        return Err(ReplayFault::InUse {
+            step: ends.step,
+            table: u,
+        });
     }
+    judge_ends(used, ends)
+}
 
-    /// What can be wrong with the tables of a node step: 1, 2, 12 and 13.
-    fn judge_node<G: ReadableGraph>(
-        &self,
-        graph: &G,
-        step: usize,
-        u: u32,
-        v: u32,
-        w: u32,
-    ) -> Result<(), ReplayFault>
-        ensures { result ≡ node_judged (table_count (G.meaning graph.now)) (flagged self.now.flags) step u v w }
-    {
-        at_place(step, named(graph.tables(), u, v, w))?;
-        if self.flags[u as usize] {
-            return Err(ReplayFault::InUse { step, table: u });
-        }
-        self.judge_ends(step, v, w)
-    }
-
-    /// 14 with the lowest table that is not in use.
-    fn close<G: ReadableGraph>(&self, graph: &G) -> Result<(), ReplayFault>
-        ensures { result ≡ close_from 0 (table_count (G.meaning graph.now)) (flagged self.now.flags) }
-    {
-        let tables = graph.tables() as usize;
-        match self.flags[..tables].iter().position(|used| !used) {
-            Some(table) => Err(ReplayFault::Unused {
-                table: table as u32,
-            }),
-            None => Ok(()),
-        }
+/// 14 with the lowest table that is not in use.
+fn close<G: ReadableGraph>(graph: &G, used: TableSet) -> Result<(), ReplayFault>
+    ensures { result ≡ close_from 0 (table_count (G.meaning graph.now)) (bit used) }
+{
+    let unused = TableSet::below(graph.tables()).difference(used);
+    match unused.first() {
+        Some(table) => Err(ReplayFault::Unused { table }),
+        None => Ok(()),
     }
 }
 
 /// An edge step.
-fn take_edge<G: EditableGraph>(
-    graph: &mut G,
-    used: &TablesInUse,
-    step: usize,
-    v: u32,
-    w: u32,
-) -> Result<(), ReplayFault>
-    ensures answer { result ≡ step_answer (G.limit graph.old) step (under_way (G.ReadableGraph.meaning graph.old) used.now.flags) (Edge v w) }
-    ensures meant { under_way (G.ReadableGraph.meaning graph.new) used.now.flags ≡ left result (step_after (under_way (G.ReadableGraph.meaning graph.old) used.now.flags) (Edge v w)) (under_way (G.ReadableGraph.meaning graph.old) used.now.flags) }
+fn take_edge<G: EditableGraph>(graph: &mut G, used: TableSet, ends: Ends) -> Result<(), ReplayFault>
+    ensures answer { result ≡ step_answer (G.limit graph.old) ends.step (under_way (G.ReadableGraph.meaning graph.old) used) (Edge ends.v ends.w) }
+    ensures meant { under_way (G.ReadableGraph.meaning graph.new) used ≡ left result (step_after (under_way (G.ReadableGraph.meaning graph.old) used) (Edge ends.v ends.w)) (under_way (G.ReadableGraph.meaning graph.old) used) }
     ensures same { G.limit graph.new ≡ G.limit graph.old }
 {
-    used.judge_edge(graph, step, v, w)?;
-    at_place(step, graph.join(v, w))?;
+    judge_edge(graph, used, ends)?;
+    at_place(ends.step, graph.join(ends.v, ends.w))?;
     Ok(())
 }
 
 /// 4 where the two tables are not joined.
-fn held<G: ReadableGraph>(graph: &G, v: u32, w: u32) -> Result<(), StoreFault>
-    ensures { result ≡ held_answer (G.meaning graph.now) v w }
+fn held<G: ReadableGraph>(graph: &G, ends: Ends) -> Result<(), StoreFault>
+    ensures { result ≡ held_answer (G.meaning graph.now) ends.v ends.w }
 {
+    let Ends { v, w, .. } = ends;
     if graph.joined(v, w) {
         Ok(())
     } else {
@@ -197,82 +194,72 @@ fn held<G: ReadableGraph>(graph: &G, v: u32, w: u32) -> Result<(), StoreFault>
     }
 }
 
-/// Takes the join of `v` and `w` out, which is there, so that the store never refuses. What lets it be taken out stands here,
+/// Takes the join of the two tables out, which is there, so that the store never refuses. What lets it be taken out stands here,
 /// apart from the answers of the two joins that are made around it.
-fn take_out<G: EditableGraph>(
-    graph: &mut G,
-    step: usize,
-    v: u32,
-    w: u32,
-) -> Result<(), At<StoreFault>>
-    requires able { unjoin_answer (G.ReadableGraph.meaning graph.old) v w ≡ Ok tt }
-    requires there { held_answer (G.ReadableGraph.meaning graph.old) v w ≡ Ok tt }
+fn take_out<G: EditableGraph>(graph: &mut G, ends: Ends) -> Result<(), At<StoreFault>>
+    requires able { unjoin_answer (G.ReadableGraph.meaning graph.old) ends.v ends.w ≡ Ok tt }
+    requires there { held_answer (G.ReadableGraph.meaning graph.old) ends.v ends.w ≡ Ok tt }
     ensures answer { result ≡ Ok tt }
-    ensures meant { G.ReadableGraph.meaning graph.new ≡ unjoining (G.ReadableGraph.meaning graph.old) v w }
+    ensures meant { G.ReadableGraph.meaning graph.new ≡ unjoining (G.ReadableGraph.meaning graph.old) ends.v ends.w }
     ensures same { G.limit graph.new ≡ G.limit graph.old }
 {
-    at_place(step, graph.unjoin(v, w))?;
+    at_place(ends.step, graph.unjoin(ends.v, ends.w))?;
     Ok(())
 }
 
-/// Puts table `u`, which has no joins, into the join of `v` and `w`. Of the three edits only the first can be
+/// Puts the new table, which has no joins, into the join of the two ends. Of the three edits only the first can be
 /// refused, by 5, and then nothing has changed.
-fn splice<G: EditableGraph>(
-    graph: &mut G,
-    step: usize,
-    u: u32,
-    v: u32,
-    w: u32,
-) -> Result<(), ReplayFault>
-    requires tables { (u < table_count (G.ReadableGraph.meaning graph.old)) × ((v < table_count (G.ReadableGraph.meaning graph.old)) × (w < table_count (G.ReadableGraph.meaning graph.old))) }
-    requires apart { ((u ≢ v)) × (((u ≢ w)) × ((v ≢ w))) }
-    requires alone { (x : ℕ) → joins (G.ReadableGraph.meaning graph.old) u x ≡ false }
-    ensures answer { result ≡ splice_answer (G.ReadableGraph.meaning graph.old) (G.limit graph.old) step v w }
-    ensures meant { G.ReadableGraph.meaning graph.new ≡ left result (spliced (G.ReadableGraph.meaning graph.old) u v w) (G.ReadableGraph.meaning graph.old) }
+fn splice<G: EditableGraph>(graph: &mut G, node: NodeStep) -> Result<(), ReplayFault>
+    requires tables { (node.u < table_count (G.ReadableGraph.meaning graph.old)) × ((node.ends.v < table_count (G.ReadableGraph.meaning graph.old)) × (node.ends.w < table_count (G.ReadableGraph.meaning graph.old))) }
+    requires apart { (node.u ≢ node.ends.v) × ((node.u ≢ node.ends.w) × (node.ends.v ≢ node.ends.w)) }
+    requires alone { (x : ℕ) → joins (G.ReadableGraph.meaning graph.old) node.u x ≡ false }
+    ensures answer { result ≡ splice_answer (G.ReadableGraph.meaning graph.old) (G.limit graph.old) node.ends.step node.ends.v node.ends.w }
+    ensures meant { G.ReadableGraph.meaning graph.new ≡ left result (spliced (G.ReadableGraph.meaning graph.old) node.u node.ends.v node.ends.w) (G.ReadableGraph.meaning graph.old) }
     ensures same { G.limit graph.new ≡ G.limit graph.old }
 {
-    at_place(step, held(graph, v, w))?;
-    at_place(step, graph.join(u, v))?;
-    take_out(graph, step, v, w)?;
-    at_place(step, graph.join(u, w))?;
+    let NodeStep { u, ends } = node;
+    at_place(ends.step, held(graph, ends))?;
+    at_place(ends.step, graph.join(u, ends.v))?;
+    take_out(graph, ends)?;
+    at_place(ends.step, graph.join(u, ends.w))?;
     Ok(())
 }
 
 /// A node step. That every join is between tables in use tells that a table not in use has none.
 fn take_node<G: EditableGraph>(
     graph: &mut G,
-    used: &mut TablesInUse,
-    step: usize,
-    u: u32,
-    v: u32,
-    w: u32,
+    used: &mut TableSet,
+    node: NodeStep,
 ) -> Result<(), ReplayFault>
-    requires { WithinUse (G.ReadableGraph.meaning graph.old) (flagged used.old.flags) }
-    ensures answer { result ≡ step_answer (G.limit graph.old) step (under_way (G.ReadableGraph.meaning graph.old) used.old.flags) (Node u v w) }
-    ensures meant { under_way (G.ReadableGraph.meaning graph.new) used.new.flags ≡ left result (step_after (under_way (G.ReadableGraph.meaning graph.old) used.old.flags) (Node u v w)) (under_way (G.ReadableGraph.meaning graph.old) used.old.flags) }
+    requires { WithinUse (G.ReadableGraph.meaning graph.old) (bit used.old) }
+    ensures answer { result ≡ step_answer (G.limit graph.old) node.ends.step (under_way (G.ReadableGraph.meaning graph.old) used.old) (Node node.u node.ends.v node.ends.w) }
+    ensures meant { under_way (G.ReadableGraph.meaning graph.new) used.new ≡ left result (step_after (under_way (G.ReadableGraph.meaning graph.old) used.old) (Node node.u node.ends.v node.ends.w)) (under_way (G.ReadableGraph.meaning graph.old) used.old) }
     ensures same { G.limit graph.new ≡ G.limit graph.old }
 {
-    used.judge_node(graph, step, u, v, w)?;
-    splice(graph, step, u, v, w)?;
-    used.flags[u as usize] = true;
+    judge_node(graph, *used, node)?;
+    splice(graph, node)?;
+    *used = used.with(node.u);
     Ok(())
 }
 
 /// One step of the list.
 fn take_step<G: EditableGraph>(
     graph: &mut G,
-    used: &mut TablesInUse,
+    used: &mut TableSet,
     number: usize,
     step: Step,
 ) -> Result<(), ReplayFault>
-    requires { WithinUse (G.ReadableGraph.meaning graph.old) (flagged used.old.flags) }
-    ensures answer { result ≡ step_answer (G.limit graph.old) number (under_way (G.ReadableGraph.meaning graph.old) used.old.flags) step }
-    ensures meant { under_way (G.ReadableGraph.meaning graph.new) used.new.flags ≡ left result (step_after (under_way (G.ReadableGraph.meaning graph.old) used.old.flags) step) (under_way (G.ReadableGraph.meaning graph.old) used.old.flags) }
+    requires { WithinUse (G.ReadableGraph.meaning graph.old) (bit used.old) }
+    ensures answer { result ≡ step_answer (G.limit graph.old) number (under_way (G.ReadableGraph.meaning graph.old) used.old) step }
+    ensures meant { under_way (G.ReadableGraph.meaning graph.new) used.new ≡ left result (step_after (under_way (G.ReadableGraph.meaning graph.old) used.old) step) (under_way (G.ReadableGraph.meaning graph.old) used.old) }
     ensures same { G.limit graph.new ≡ G.limit graph.old }
 {
     match step {
-        Step::Edge { v, w } => take_edge(graph, used, number, v, w),
-        Step::Node { u, v, w } => take_node(graph, used, number, u, v, w),
+        Step::Edge { v, w } => take_edge(graph, *used, Ends { step: number, v, w }),
+        Step::Node { u, v, w } => {
+            let ends = Ends { step: number, v, w };
+            take_node(graph, used, NodeStep { u, ends })
+        }
     }
 }
 
@@ -302,9 +289,9 @@ pub fn replay<G: EditableGraph>(
     ensures start { StartTold (G.ReadableGraph.meaning graph.old) result (G.ReadableGraph.meaning graph.new) }
 {
     start(graph, triangle)?;
-    let mut used = TablesInUse::seated(triangle);
+    let mut used = seated(triangle);
     for (i, step) in steps.iter().enumerate() {
         take_step(graph, &mut used, i + 1, *step)?;
     }
-    used.close(graph)
+    close(graph, used)
 }

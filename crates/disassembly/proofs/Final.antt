@@ -6,6 +6,7 @@
 --   left_is            a finished search of a fit graph has left exactly the tables of it
 --   Ends, ends         what taking away all but the last three tables that were left gives: a triangle and a legal build from it
 use Rattle.std.proofs.Common.{◌≡◌, ℕ, zero, suc, ◌+◌, ◌<◌, ◌≤◌, Bool, true, false, cond, not, ◌&&◌, ◌||◌, eqb, ◌⊎◌, List, [], ◌∷◌, ◌++◌, length, get_or, sym, refl, ap, ◌∙◌, subst, inl, inr, ⊎_elim, arith}
+use Rattle.std.specs.Cmp.{both_ways as same_test}
 use Rattle.std.proofs.lemmas.Bool.{cases_eq, cases_order, both_ways}
 use Rattle.std.proofs.lemmas.Bool.Decides.{nat_tests}
 use Rattle.theory.specs.Graph.{count}
@@ -22,7 +23,7 @@ use Rattle.disassembly.proofs.Visits.{visit_in, Orderly, Kept, kept, visit_left,
 use Rattle.disassembly.proofs.Reach.{connected_seen, fit_hangs_in}
 use Rattle.disassembly.proofs.Undo.{append_more}
 use Rattle.disassembly.proofs.Away.{taken_in_use}
-use Rattle.disassembly.proofs.Passing.{same_test, passing_rising, rising_unique}
+use Rattle.disassembly.proofs.Passing.{passing_rising, rising_unique}
 use Rattle.disassembly.proofs.Whole.{In, Joined, hangs_simple, Ready, AllReady, all_hangs, all_within, all_away, all_builds, three_full, full_triangle}
 
 -- ---- lists

@@ -1,6 +1,7 @@
 -- What a build list tells of the graph that it builds: how many joins it has, and which graph it is.
 --
 --   builds_grow     tables in use stay in use
+--   corner_in       the corners of a triangle are in use
 --   build_length    a graph of m joins is built in m - 3 steps
 --   builds_same     one list of steps builds one part
 --   one_graph       one build list builds one graph
@@ -13,6 +14,7 @@ use Rattle.theory.specs.declared.step.Step.{Step}
 use Rattle.theory.specs.declared.step.Step.TheVariants.{Edge, Node}
 use Rattle.theory.specs.declared.step.Triangle.{Triangle}
 use Rattle.theory.proofs.Sizes.{joining_simple, joining_size, unjoining_simple, unjoining_size, no_joins_simple, no_joins_size}
+use Rattle.disassembly.proofs.Steps.{with_table_keeps, with_table_new}
 
 -- ---- tables in use
 
@@ -38,12 +40,6 @@ record Placed (n : ℕ) (p : Part) : Type 0 where
 -- a table of a pair
 pair_first : (v w a b : ℕ) → same_pair v w a b ≡ true → (a ≡ v) ⊎ (a ≡ w)
 pair_first v w a b h = grind (arith, nat_tests)
-
-new_in : (u : ℕ) (U : ℕ → Bool) → with_table u U u ≡ true
-new_in u U = grind (arith, nat_tests)
-
-old_in : (u : ℕ) (U : ℕ → Bool) (x : ℕ) → U x ≡ true → with_table u U x ≡ true
-old_in u U x h = grind (arith, nat_tests)
 
 -- a join put in between tables of U
 with_held : (v w : ℕ) (J : ℕ → ℕ → Bool) (U : ℕ → Bool) → U v ≡ true → U w ≡ true → ((a b : ℕ) → J a b ≡ true → U a ≡ true) → (a b : ℕ) → with_join v w J a b ≡ true → U a ≡ true
@@ -89,9 +85,9 @@ node_placed n u v w p s ok un vn wn =
     let c : size (joining (joining (unjoining m v w) u v) u w) ≡ size (joining (unjoining m v w) u v) + 1 = joining_size (joining (unjoining m v w) u v) u w un wn uw two still in (
       record {
         simple = joining_simple (joining (unjoining m v w) u v) u w un wn uw two;
-        held = with_held u w (with_join u v (without_join v w p.joins)) (with_table u p.in_use) (new_in u p.in_use) (old_in u p.in_use w ok.2)
-            (with_held u v (without_join v w p.joins) (with_table u p.in_use) (new_in u p.in_use) (old_in u p.in_use v ok.1)
-            (λ x y h. old_in u p.in_use x (s.held x y (without_held v w p.joins x y h))));
+        held = with_held u w (with_join u v (without_join v w p.joins)) (with_table u p.in_use) (with_table_new u p.in_use) (with_table_keeps u p.in_use w ok.2)
+            (with_held u v (without_join v w p.joins) (with_table u p.in_use) (with_table_new u p.in_use) (with_table_keeps u p.in_use v ok.1)
+            (λ x y h. with_table_keeps u p.in_use x (s.held x y (without_held v w p.joins x y h))));
       },
       sums (size m) (size (unjoining m v w)) (size (joining (unjoining m v w) u v)) (size (joining (joining (unjoining m v w) u v) u w)) a b c,
     )
@@ -102,7 +98,7 @@ node_placed n u v w p s ok un vn wn =
 step_size : (n : ℕ) (s : Step) (p : Part) → Placed n p → Allowed s p → ((x : ℕ) → (after s p).in_use x ≡ true → x < n) → Placed n (after s p) × (size (graph_of n (after s p)) ≡ size (graph_of n p) + 1)
 step_size n (Edge v w) p s ok small = edge_placed n v w p s ok (small v ok.0) (small w ok.1)
 step_size n (Node u v w) p s ok small =
-    node_placed n u v w p s ok (small u (new_in u p.in_use)) (small v (old_in u p.in_use v ok.1)) (small w (old_in u p.in_use w ok.2))
+    node_placed n u v w p s ok (small u (with_table_new u p.in_use)) (small v (with_table_keeps u p.in_use v ok.1)) (small w (with_table_keeps u p.in_use w ok.2))
 
 -- ---- the whole build
 
@@ -116,7 +112,7 @@ builds_size n {q = q} (next {p = p} {s = t} {l = l} ok b) s small =
     more : (x y z k : ℕ) → y ≡ x + 1 → z ≡ y + k → z ≡ x + suc k
     more x y z k a b = omega arith
 
-corner_in : (t : Triangle) → ((triangle t).in_use t.a ≡ true) × ((triangle t).in_use t.b ≡ true) × ((triangle t).in_use t.c ≡ true)
+pub corner_in : (t : Triangle) → ((triangle t).in_use t.a ≡ true) × ((triangle t).in_use t.b ≡ true) × ((triangle t).in_use t.c ≡ true)
 corner_in t = (grind (arith, nat_tests), grind (arith, nat_tests), grind (arith, nat_tests))
 
 -- two pairs with one table in common

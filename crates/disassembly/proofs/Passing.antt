@@ -1,6 +1,5 @@
 -- The numbers that pass a test, listed in rising order: that the enumeration is such a list, and the only one.
 --
---   same_test            two tests that hold of each other are equal
 --   passing_passes       what the enumeration has passes, and lies in its span
 --   has_passing          it has all that pass there
 --   passing_distinct     it has none twice
@@ -8,17 +7,11 @@
 --   rising_unique        there is no other rising list of the numbers that pass
 --   rising_distinct      a rising list has no number twice
 use Rattle.std.proofs.Common.{◌≡◌, ℕ, zero, suc, ◌+◌, ◌<◌, ◌≤◌, Bool, true, false, List, [], ◌∷◌, length, get_or, sym, refl, ◌∙◌, subst, ap₂, ⊎_elim, arith}
-use Rattle.std.proofs.lemmas.Bool.{cases_eq, cases_Bool, cases_order, both_ways, false≢true}
+use Rattle.std.specs.Cmp.{both_ways as same_test}
+use Rattle.std.proofs.lemmas.Bool.{cases_eq, cases_Bool, cases_order, false≢true}
 use Rattle.disassembly.specs.Search.{has}
 use Rattle.disassembly.specs.Disassembly.{RisingList, passing_from, passing}
 use Rattle.disassembly.proofs.Members.{has_cases, has_more, has_head, absent, Distinct}
-
-pub same_test : (b c : Bool) → (b ≡ true → c ≡ true) → (c ≡ true → b ≡ true) → b ≡ c
-same_test b c to from =
-    ⊎_elim
-    (λ (e : b ≡ true). e ∙ sym (to e))
-    (λ (e : b ≡ false). ⊎_elim (λ (g : c ≡ true). absurd (both_ways b e (from g))) (λ (g : c ≡ false). e ∙ sym g) (cases_Bool c))
-    (cases_Bool b)
 
 -- ---- what the enumeration has
 

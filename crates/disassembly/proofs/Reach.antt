@@ -13,6 +13,7 @@
 --   connected_seen                        on a connected graph a search discovers exactly its tables
 --   fit_hangs, fit_hangs_in               a fit graph hangs on the tree of its search
 use Rattle.std.proofs.Common.{◌≡◌, ℕ, ◌<◌, Bool, true, false, not, ◌&&◌, ◌⊎◌, List, [], ◌∷◌, Some, None, sym, refl, ap, ◌∙◌, inl, inr, ⊎_elim, arith}
+use Rattle.std.specs.Cmp.{both_ways as same_test}
 use Rattle.std.proofs.lemmas.Bool.{cases_Bool, both_ways, false≢true}
 use Rattle.theory.specs.Graph.{Lowest}
 use Rattle.disassembly.specs.Walks.{Leads, Reaches, Connected, without, Articulation, SimpleOn}
@@ -215,9 +216,6 @@ module _ (U : ℕ → Bool) (J : ℕ → ℕ → Bool) (s : SimpleOn U J) where
     -- the search discovers exactly the tables of U
     pub connected_seen : (x : ℕ) → has D x ≡ U x
     connected_seen x = same_test (has D x) (U x) (visit_in U J f r s ur v x) (λ u. visit_hops U J f r s v x (c r x ur u))
-      where
-        same_test : (a b : Bool) → (a ≡ true → b ≡ true) → (b ≡ true → a ≡ true) → a ≡ b
-        same_test a b to back = grind arith
 
   pub fit_hangs : Fit U J → (f : ℕ → ℕ) (r : ℕ) → U r ≡ true → {D L : List ℕ} → Visit U J f r [] D L
       → Hangs (λ a. has D a ≡ true) (λ a b. J a b ≡ true) f r (discovery D)

@@ -3,11 +3,12 @@
 --   Same, pair_true, pair_false, pair_is   the same pair of tables
 --   with_join_true, with_join_keeps, with_join_at, without_join_keeps, without_join_true
 --                                          one join more, or one fewer
---   same_test                              two tests that imply one another are equal
 --   Sturdy                                 what holds of every part on the way
+--   with_table_keeps, with_table_new       one table more in use
 --   put_on                                 a table put into a join leaves the tables connected without any one of them
 --   sturdy_step, sturdy_build              a step keeps it, and so does a build
 use Rattle.std.proofs.Common.{◌≡◌, ℕ, Bool, true, false, ◌⊎◌, List, sym, refl, ◌∙◌, subst, inl, inr, ⊎_elim, arith}
+use Rattle.std.specs.Cmp.{both_ways as same_test}
 use Rattle.std.proofs.lemmas.Bool.{cases_eq, both_ways}
 use Rattle.std.proofs.lemmas.Bool.Decides.{nat_tests}
 use Rattle.theory.specs.Graph.{same_pair}
@@ -46,9 +47,6 @@ without_join_keeps v w J a b h = grind (arith, nat_tests)
 
 pub without_join_true : (v w : ℕ) (J : ℕ → ℕ → Bool) (a b : ℕ) → without_join v w J a b ≡ true → J a b ≡ true
 without_join_true v w J a b h = grind (arith, nat_tests)
-
-pub same_test : (x y : Bool) → (x ≡ true → y ≡ true) → (y ≡ true → x ≡ true) → x ≡ y
-same_test x y f g = grind arith
 
 same_turned : (v w a b : ℕ) → Same v w a b → Same v w b a
 same_turned v w a b (inl e) = inr (e.1, e.0)
@@ -163,10 +161,10 @@ onto_keeps u v w J a b h = grind (arith, nat_tests)
 with_table_cases : (u : ℕ) (U : ℕ → Bool) (a : ℕ) → with_table u U a ≡ true → (a ≡ u) ⊎ (U a ≡ true)
 with_table_cases u U a h = grind (arith, nat_tests)
 
-with_table_keeps : (u : ℕ) (U : ℕ → Bool) (a : ℕ) → U a ≡ true → with_table u U a ≡ true
+pub with_table_keeps : (u : ℕ) (U : ℕ → Bool) (a : ℕ) → U a ≡ true → with_table u U a ≡ true
 with_table_keeps u U a h = grind (arith, nat_tests)
 
-with_table_new : (u : ℕ) (U : ℕ → Bool) → with_table u U u ≡ true
+pub with_table_new : (u : ℕ) (U : ℕ → Bool) → with_table u U u ≡ true
 with_table_new u U = grind (arith, nat_tests)
 
 sturdy_node : (u v w : ℕ) (p : Part) → Allowed (Node u v w) p → Sturdy p → Sturdy (after (Node u v w) p)

@@ -9,6 +9,7 @@
 --   three_full                     three tables that hang on a tree are joined pairwise
 --   full_triangle                  a part of three tables that are joined pairwise is the triangle
 use Rattle.std.proofs.Common.{◌≡◌, ℕ, ◌<◌, ◌≤◌, Bool, true, not, ◌&&◌, eqb, ◌⊎◌, List, [], ◌∷◌, sym, refl, ap, ◌∙◌, subst, inl, inr, ⊎_elim, arith}
+use Rattle.std.specs.Cmp.{both_ways as same_test}
 use Rattle.std.proofs.lemmas.Bool.{cases_Bool}
 use Rattle.std.proofs.lemmas.Bool.Decides.{nat_tests}
 use Rattle.theory.specs.Build.{Part, Ascending, triangle, with_join, Builds, done}
@@ -19,7 +20,7 @@ use Rattle.disassembly.proofs.Trees.{over_leaf, over_root}
 use Rattle.disassembly.proofs.Walks.{without_true, true_without}
 use Rattle.disassembly.proofs.Undo.{builds_more, part_path, reversed_append, SimplePart, apart, ends_in}
 use Rattle.disassembly.proofs.Away.{taken_in_use, taken_joins, undo_away}
-use Rattle.disassembly.proofs.Passing.{same_test, passing_rising}
+use Rattle.disassembly.proofs.Passing.{passing_rising}
 use Rattle.disassembly.proofs.Nearest.{nearest_joined, nearest_lowest}
 use Rattle.disassembly.proofs.Leaf.{parent_not_root, lowest_not_parent, leaf_hangs}
 

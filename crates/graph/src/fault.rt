@@ -1,5 +1,5 @@
 //! Why a store refuses an edit, and where: any refusal with the place that it was met at.
-//! stays: the numbers are those of the X lines; a definition gives each case its own, so they stand written out.
+//! stays: the numbers are those of the X lines. An enum whose cases carry values gives none by `as`, so a match does.
 ghost use Rattle.std.specs.Prelude.{◌≡◌};
 ghost use Rattle.graph.specs.Fault.{store_number, store_values, marked};
 
@@ -33,6 +33,7 @@ impl StoreFault {
     }
 
     /// The tables or the amount that it names, and 0 where it names one alone.
+    // stays: callers are promised two numbers; who wants to know which of them a case names matches the case
     pub fn values(self) -> [u32; 2]
         ensures { result ≡ store_values self }
     {

@@ -5,12 +5,9 @@ use Rattle.theory.specs.declared.step.Step.{Step}
 use Rattle.refusals.specs.declared.build.BuildFault.{BuildFault}
 use Rattle.assembly.specs.Build.{list_of, build_judged, built_after, build_answer, records_after}
 use Rattle.assembly.specs.declared.build.Built.{Built}
-use Rattle.assembly.proofs.Laws.{There, there, legal_given}
+use Rattle.assembly.proofs.Laws.{ok_err, There, there, legal_given}
 use Rattle.keys.specs.Key.{ComparedBy, Compared, OneKey}
 use Rattle.keys.proofs.Agree.{keys_agree}
-
-ok_err : {X F : Type 0} (x : X) (f : F) → Ok x ≡ Err f → ⊥
-ok_err x f e = cc
 
 accepted : (m : Graph) (r : Result Unit BuildFault) (b : Built) → built_after r m ≡ Ok b → r ≡ Ok tt
 accepted m (Ok tt) b e = refl

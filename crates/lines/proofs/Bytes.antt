@@ -1,5 +1,5 @@
 -- The text of a line has 17 bytes, none of them 0: so the beginning of a line lies within the text that it is read from.
-use Rattle.std.proofs.Common.{◌≡◌, ℕ, zero, suc, ◌+◌, ◌-◌, ◌<◌, ◌≤◌, List, [], ◌∷◌, ◌++◌, length, get_or, ℤ, pos, negsuc, Some, None, Option, refl, ⊎_elim, arith}
+use Rattle.std.proofs.Common.{◌≡◌, ℕ, zero, suc, ◌+◌, ◌-◌, ◌<◌, ◌≤◌, List, [], ◌∷◌, ◌++◌, length, get_or, pos, negsuc, Some, None, Option, refl, ⊎_elim, arith}
 use Rattle.std.proofs.lemmas.Bool.{cases_lt}
 use Rattle.std.proofs.lemmas.Bool.Decides.{nat_tests}
 use Rattle.std.proofs.lemmas.List.{get_or_past, length-append}
@@ -7,13 +7,8 @@ use Rattle.lines.specs.declared.line.Layout.{Layout}
 use Rattle.lines.specs.declared.line.Fields.{Fields}
 use Rattle.lines.specs.declared.line.Fields.TheVariants.{Three, LastTwo, FirstTwo, Counted, Single}
 use Rattle.lines.specs.declared.line.Line.{Line}
-use Rattle.lines.specs.Text.{layout, place_text, place_below, numeral, numeral_below, number_text, unused_text, count_text, optional_text, fields_text, line_text, Written}
+use Rattle.lines.specs.Text.{layout, place_text, place_below, numeral, numeral_below, number_text, unused_text, optional_text, fields_text, line_text, Written}
 use Rattle.lines.specs.Form.{Begins}
-
--- a row count has ten characters
-pub count_length : (z : ℤ) → length (count_text z) ≡ 10
-count_length (pos n) = refl
-count_length (negsuc n) = refl
 
 -- a number or an unused field has five
 pub optional_length : (o : Option ℕ) → length (optional_text o) ≡ 5

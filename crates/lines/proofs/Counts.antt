@@ -1,5 +1,5 @@
 -- Reading a stored row count, ten characters with a minus sign or none: what it amounts to, and that it fits.
-use Rattle.std.proofs.Common.{◌≡◌, ℕ, zero, suc, pred, ◌+◌, ◌-◌, ◌*◌, ◌/◌, ◌^◌, Bool, true, false, not, eqb, ◌↔◌, List, [], ◌∷◌, ℤ, pos, negsuc, Ok, sym, refl, ap, ◌∙◌, subst, ⊎_elim, div-one, arith}
+use Rattle.std.proofs.Common.{◌≡◌, ℕ, zero, suc, pred, ◌+◌, ◌-◌, ◌*◌, ◌/◌, ◌^◌, Bool, true, false, not, eqb, ◌↔◌, List, [], ◌∷◌, ℤ, pos, negsuc, sym, refl, ap, ◌∙◌, subst, ⊎_elim, div-one, arith}
 use mathlib.Core.Path.{fun_ext}
 use Rattle.std.proofs.lemmas.Bool.{cases_Bool, false≢true, true≢false}
 use Rattle.std.proofs.lemmas.Bool.Decides.{nat_tests}
@@ -130,7 +130,3 @@ pub count_read : (text : List ℕ) (i : ℕ) → Piece counts text i (count_at t
 count_read text i =
     subst (λ t. Piece (record { Fit = CountFits; text_of = t; width = 10 }) text i (count_at text i)) (fun_ext count_same)
     (refit (count_places 10 false 0) CountFits count_left text i (count_at text i) (count_places_read text 10 i false 0 (λ f. absurd (false≢true f))))
-
--- a row count that is read fits
-pub count_small : (text : List ℕ) (i : ℕ) (z : ℤ) → count_at text i ≡ Ok z → CountFits z
-count_small text i z e = let p : Piece counts text i (Ok z) = rw e at (count_read text i) in p.fits

@@ -1,5 +1,5 @@
 -- Reading a number in its field: what it amounts to, and that it is below 100,000.
-use Rattle.std.proofs.Common.{◌≡◌, ℕ, zero, suc, ◌+◌, ◌-◌, ◌*◌, ◌/◌, ◌^◌, ◌≤◌, true, false, List, Ok, sym, ◌∙◌, ⊎_elim, div-one, arith}
+use Rattle.std.proofs.Common.{◌≡◌, ℕ, zero, suc, ◌+◌, ◌-◌, ◌*◌, ◌/◌, ◌^◌, ◌≤◌, true, false, List, sym, ◌∙◌, ⊎_elim, div-one, arith}
 use Rattle.std.proofs.lemmas.Bool.{cases_Bool}
 use Rattle.lines.specs.Text.{place_text, numeral, number_text}
 use Rattle.lines.specs.Read.{byte, digit_may, blank_may, number_from, number_at}
@@ -38,7 +38,3 @@ numbers = record { Fit = λ v. v ≤ 99999; text_of = number_text; width = 5 }
 -- reading it
 pub number_read : (text : List ℕ) (i : ℕ) → Piece numbers text i (number_at text i)
 number_read text i = refit (places 5 0) (λ v. v ≤ 99999) (λ v. (λ e. omega arith, λ e. omega arith)) text i (number_at text i) (places_read text 5 i 0)
-
--- a number that is read is small
-pub number_small : (text : List ℕ) (i v : ℕ) → number_at text i ≡ Ok v → v ≤ 99999
-number_small text i v e = let p : Piece numbers text i (Ok v) = rw e at (number_read text i) in p.fits

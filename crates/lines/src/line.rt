@@ -50,8 +50,8 @@ pub enum Fields {
 }
 
 /// A line: its letter, and what its fields hold.
-// stays: the letter is a character that readers match on, and what its fields hold is another question: the definitions of a
-// line are over these two
+// stays: eleven letters have five layouts. An enum of a case a letter would say five times how three numbers are read, written and
+// proved (H, T, N, D, X), and three times how two are; here each layout is said once
 #[derive(Clone, Copy, PartialEq, Eq, Debug)]
 pub struct Line {
     pub letter: char,

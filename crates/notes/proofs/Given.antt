@@ -5,18 +5,19 @@
 use Rattle.std.proofs.Common.{◌≡◌, ℕ, Bool, List, length, sym, ap, ◌∙◌}
 use mathlib.Core.Path.{fun_ext}
 use Rattle.theory.specs.Build.{Part}
-use Rattle.bits.specs.Rows.{bit}
+use Rattle.sets.specs.Set.{bit}
 use Rattle.disassembly.specs.Search.{Place, discovery}
 use Rattle.disassembly.specs.Disassembly.{reversed, part_of, away_of, remaining, all_notes, given_at}
 use Rattle.disassembly.proofs.Undo.{part_path}
 use Rattle.traversal.specs.Discoveries.{parent_in, number_in}
 use Rattle.traversal.specs.Survey.{Tells}
 use Rattle.traversal.specs.declared.survey.Survey.{Survey}
-use Rattle.notes.specs.Notes.{joins_in, part_in, away_in, remains_of, all_notes_of, corners_of}
+use Rattle.sets.specs.Rows.{in_row}
+use Rattle.notes.specs.Notes.{part_in, away_in, remains_of, all_notes_of, corners_of}
 use Rattle.notes.proofs.Reversed.{reversed_length, away_taken}
 
 module _ (p : Place) (s : Survey) (tells : Tells p s) (U : ℕ → Bool) (J : ℕ → ℕ → Bool) (tables : ℕ) (rows : List ℕ)
-    (used : (x : ℕ) → bit tables x ≡ U x) (joins : (x y : ℕ) → joins_in rows x y ≡ J x y) where
+    (used : (x : ℕ) → bit tables x ≡ U x) (joins : (x y : ℕ) → in_row rows x y ≡ J x y) where
   -- whatever is computed of the four is the same
   told : {A : Type 0} (F : (ℕ → ℕ) → (ℕ → ℕ) → List ℕ → Part → A)
       → F (parent_in s.found) (number_in s.found) (away_in s) (part_in tables rows) ≡ F p.parent (discovery p.seen) (away_of p) (part_of U J)

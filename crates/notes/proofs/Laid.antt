@@ -4,9 +4,9 @@
 --   corners_in   the triangle of a mask
 use Rattle.std.proofs.Common.{◌≡◌, ℕ, ◌+◌, ◌≤◌, Bool, List, ◌++◌, length, take, drop, ap, ◌∙◌, arith}
 use Rattle.theory.specs.declared.step.Step.{Step}
-use Rattle.bits.specs.Rows.{bit}
+use Rattle.sets.specs.Set.{bit}
 use Rattle.disassembly.specs.Disassembly.{reversed, passing, corners}
-use Rattle.notes.specs.Masks.{tables_of}
+use Rattle.sets.specs.Set.{tables_of}
 use Rattle.notes.specs.Notes.{poured, corners_of, list_laid}
 use Rattle.notes.proofs.Poured.{poured_front, poured_back}
 

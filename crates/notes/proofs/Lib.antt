@@ -1,5 +1,3 @@
-pub mod Lowest
-pub mod Masks
 pub mod Poured
 pub mod Strip
 pub mod Turns

@@ -1,58 +1,26 @@
 -- One table taken away, and the next: what rows and masks mean then.
 --
---   joined_rows              two rows, each with the other's bit put in
---   symmetric_joined         the joins then go both ways
 --   notes_in J u f a         the notes of taking u away where f and a are the two ends that stay; the tables in use play no part
 --   joins_after J u f a      the joins then
---   noted_in, taken_in       the notes and the part after one table, by rows and masks
-use Rattle.std.proofs.Common.{◌≡◌, ℕ, ◌<◌, Bool, true, false, not, ◌&&◌, ◌||◌, eqb, List, length, get_or, set, sym, refl, ap, ◌∙◌, ⊎_elim, arith, length-set, get_or-set_other, get_or-set_same}
-use lib.Bits.{bit_or}
-use Rattle.std.proofs.lemmas.Nat.{one_shl}
-use Rattle.std.proofs.lemmas.Bool.{cases_eq, eq-eqb, ne_eqb}
+--   joins_then               they are, once the joins of u are out and that of f and a is in
+--   symmetric_then           and they go both ways
+--   any_noted                a note where there is one
+--   noted_in, taken_in       the notes and the part after one table, by rows and sets
+use Rattle.std.proofs.Common.{◌≡◌, ℕ, ◌<◌, Bool, true, false, cond, not, ◌&&◌, ◌||◌, eqb, ltb, Option, List, [], ◌∷◌, get_or, sym, refl, ap, ◌∙◌, arith}
 use Rattle.std.proofs.lemmas.Bool.Decides.{nat_tests}
 use Rattle.theory.specs.Graph.{same_pair}
 use Rattle.theory.specs.Build.{with_join}
 use Rattle.theory.specs.declared.step.Step.{Step}
-use Rattle.bits.specs.Rows.{bit}
-use Rattle.bits.proofs.Bit.{or_bit}
+use Rattle.sets.specs.Set.{bit}
+use Rattle.std.specs.Bool.{then_some}
 use Rattle.disassembly.specs.Walks.{without}
 use Rattle.disassembly.specs.Disassembly.{spliced, nearest, nearest_of, taken, noted, part_of, notes_of}
 use Rattle.disassembly.proofs.Undo.{part_path}
 use Rattle.disassembly.proofs.Away.{taken_is}
-use Rattle.notes.specs.Masks.{tables_of}
-use Rattle.notes.specs.Notes.{joins_in, part_in, Symmetric, others}
-use Rattle.notes.proofs.Masks.{shl}
-
--- ---- a join put in
-
-abbrev pub with_bit : List ℕ → ℕ → ℕ → List ℕ
-with_bit rows a b = set rows a (bit_or (get_or rows a 0) (shl b))
-
-one_row : (rows : List ℕ) (a b : ℕ) → a < length rows → b < 64 → (x y : ℕ) → joins_in (with_bit rows a b) x y ≡ ((eqb a x && eqb b y) || joins_in rows x y)
-one_row rows a b la lb x y =
-    ⊎_elim
-    (λ (e : x ≡ a).
-    let same : eqb a a ≡ true = eq-eqb a a refl in
-    rw (e, get_or-set_same rows a (bit_or (get_or rows a 0) (shl b)) 0 la, same) (ap (λ v. bit (bit_or (get_or rows a 0) v) y) (one_shl b 64 lb) ∙ or_bit (get_or rows a 0) b y))
-    (λ (ne : x ≡ a → ⊥).
-    let apart : eqb a x ≡ false = ne_eqb a x (λ e. ne (sym e)) in
-    rw (get_or-set_other rows a x (bit_or (get_or rows a 0) (shl b)) 0 ne, apart) refl)
-    (cases_eq x a)
-
-pair_put : (a b x y : ℕ) (j k l : Bool) → k ≡ ((eqb a x && eqb b y) || j) → l ≡ ((eqb b x && eqb a y) || k) → l ≡ (same_pair a b x y || j)
-pair_put a b x y j k l p q = grind (arith, nat_tests)
-
-pub joined_rows : (rows : List ℕ) (a b : ℕ) → length rows ≡ 64 → a < 64 → b < 64 → (x y : ℕ) → joins_in (with_bit (with_bit rows a b) b a) x y ≡ with_join a b (joins_in rows) x y
-joined_rows rows a b long la lb x y =
-    let lb' : b < length (with_bit rows a b) = simp length-set (omega arith) in
-    pair_put a b x y (joins_in rows x y) (joins_in (with_bit rows a b) x y) (joins_in (with_bit (with_bit rows a b) b a) x y)
-    (one_row rows a b (omega arith) lb x y) (one_row (with_bit rows a b) b a lb' la x y)
-
-pub symmetric_joined : (J K : ℕ → ℕ → Bool) (f a : ℕ) → Symmetric J → ((x y : ℕ) → K x y ≡ with_join f a J x y) → Symmetric K
-symmetric_joined J K f a s means x y = means x y ∙ turned ∙ sym (means y x)
-  where
-    turned : with_join f a J x y ≡ with_join f a J y x
-    turned = let e : J x y ≡ J y x = s x y in grind (arith, nat_tests)
+use Rattle.sets.specs.Set.{tables_of}
+use Rattle.sets.specs.Rows.{in_row}
+use Rattle.notes.specs.Notes.{part_in, Symmetric, others, any}
+use Rattle.notes.proofs.Strip.{symmetric_out}
 
 -- ---- one table
 
@@ -62,8 +30,30 @@ notes_in J u f a = notes_of u f a (others J u f a) (part_of (λ _. false) J)
 abbrev pub joins_after : (ℕ → ℕ → Bool) → ℕ → ℕ → ℕ → ℕ → ℕ → Bool
 joins_after J u f a = with_join f a (λ x y. (not (eqb u x) && not (eqb u y)) && J x y)
 
+module _ (J K L : ℕ → ℕ → Bool) (u f a : ℕ) (lf : f < 64) (la : a < 64)
+    (out : (x y : ℕ) → K x y ≡ ((not (eqb u x) && not (eqb u y)) && J x y))
+    (put : (x y : ℕ) → L x y ≡ (((ltb f 64 && ltb a 64) && same_pair f a x y) || K x y)) where
+  put_in : (x y : ℕ) → L x y ≡ with_join f a K x y
+  put_in x y = put x y ∙ ap (λ c. (c && same_pair f a x y) || K x y) span
+    where
+      span : (ltb f 64 && ltb a 64) ≡ true
+      span = grind (arith, nat_tests)
+
+  pub joins_then : (x y : ℕ) → L x y ≡ joins_after J u f a x y
+  joins_then x y = put_in x y ∙ ap (λ k. same_pair f a x y || k) (out x y)
+
+  pub symmetric_then : Symmetric J → Symmetric L
+  symmetric_then s x y = put_in x y ∙ turned ∙ sym (put_in y x)
+    where
+      turned : with_join f a K x y ≡ with_join f a K y x
+      turned = let e : K x y ≡ K y x = symmetric_out J K u s out x y in grind (arith, nat_tests)
+
+pub any_noted : (o : Option Step) (b : Bool) (s : Step) → o ≡ then_some b s → any o ≡ cond b (s ∷ []) []
+any_noted o true s e = ap any e
+any_noted o false s e = ap any e
+
 pub noted_in : (parent rank : ℕ → ℕ) (u tables : ℕ) (rows : List ℕ)
-    → noted parent rank u (part_in tables rows) ≡ notes_in (joins_in rows) u (parent u) (nearest rank (parent u) (tables_of (get_or rows u 0)))
+    → noted parent rank u (part_in tables rows) ≡ notes_in (in_row rows) u (parent u) (nearest rank (parent u) (tables_of (get_or rows u 0)))
 unfolding noted nearest_of others tables_of
 noted_in parent rank u tables rows = refl
 
@@ -71,11 +61,14 @@ nearest_in : (parent rank : ℕ → ℕ) (u tables : ℕ) (rows : List ℕ) → 
 unfolding nearest_of tables_of
 nearest_in parent rank u tables rows = refl
 
-pub taken_in : (parent rank : ℕ → ℕ) (u tables tables' : ℕ) (rows rows' : List ℕ) → ((x : ℕ) → bit tables' x ≡ without u (bit tables) x)
-    → ((x y : ℕ) → joins_in rows' x y ≡ joins_after (joins_in rows) u (parent u) (nearest rank (parent u) (tables_of (get_or rows u 0))) x y)
+pub taken_in : (parent rank : ℕ → ℕ) (u tables tables' : ℕ) (rows rows' : List ℕ) → ((x : ℕ) → bit tables' x ≡ (not (eqb x u) && bit tables x))
+    → ((x y : ℕ) → in_row rows' x y ≡ joins_after (in_row rows) u (parent u) (nearest rank (parent u) (tables_of (get_or rows u 0))) x y)
     → taken parent rank u (part_in tables rows) ≡ part_in tables' rows'
 taken_in parent rank u tables tables' rows rows' used joins =
     taken_is parent rank u (part_in tables rows)
     ∙ ap (λ a. spliced u (parent u) a (part_in tables rows)) (nearest_in parent rank u tables rows)
     ∙ part_path (spliced u (parent u) (nearest rank (parent u) (tables_of (get_or rows u 0))) (part_in tables rows)) (part_in tables' rows')
-    (λ x. sym (used x)) (λ x y. sym (joins x y))
+    (λ x. sym (used x ∙ turned x)) (λ x y. sym (joins x y))
+  where
+    turned : (x : ℕ) → (not (eqb x u) && bit tables x) ≡ without u (bit tables) x
+    turned x = let e : eqb x u ≡ eqb u x = grind (arith, nat_tests) in rw e refl

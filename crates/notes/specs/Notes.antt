@@ -1,8 +1,8 @@
--- What rows of bits and lent slots mean while tables are taken away.
+-- What sets, rows and lent slots mean while tables are taken away.
 --
---   joins_in rows        the test on pairs that rows of bits keep
---   part_in tables rows  the part with these tables in use, given as bits, and these joins
+--   part_in tables rows  the part with the tables of a set in use, and the joins of rows
 --   Symmetric J          the joins go both ways
+--   Without u l J K      the joins K are those of J, without those of u with the tables l
 --   others J u f a       u's neighbours other than f and a, in rising number
 --   away_in s            the tables to take away in the order of survey s: all but the last three that the search left
 --   taken_of s u p, noted_of s u p
@@ -10,28 +10,32 @@
 --   remains_of s p, all_notes_of s p
 --                        the same for all tables to take away, one after another
 --   poured slots k l     the slots with the records l laid into them from place k on
+--   any o                the note of o, where there is one
 --   Fits s l             the stack s has room for the records l
 --   Lays s t l           the stack t is s with the records l laid on top, where they fit
 --   corners_of U         the triangle of the three lowest tables of U
 --   list_laid notes l    the records l with the notes laid in reverse over the first of them
-use Rattle.std.specs.Prelude.{◌≡◌, ℕ, ◌+◌, ◌-◌, ◌≤◌, Bool, false, List, [], ◌∷◌, ◌++◌, length, take, drop, slice_index, slice_set}
+use Rattle.std.specs.Prelude.{◌≡◌, ℕ, ◌+◌, ◌-◌, ◌≤◌, Bool, false, not, ◌&&◌, ◌||◌, Some, None, Option, List, [], ◌∷◌, ◌++◌, length, take, drop, ◌==◌, slice_set}
 use Rattle.theory.specs.Build.{Part}
 use Rattle.theory.specs.declared.step.Step.{Step}
 use Rattle.theory.specs.declared.step.Triangle.{Triangle}
+use Rattle.memory.specs.Stack.{slots_of, height_of, lender_of}
 use Rattle.memory.specs.declared.stack.Stack.{Stack}
-use Rattle.bits.specs.Rows.{bit}
+use Rattle.sets.specs.Set.{bit}
+use Rattle.sets.specs.Rows.{in_row}
+use Rattle.disassembly.specs.Search.{has}
 use Rattle.disassembly.specs.Disassembly.{part_of, other, passing, reversed, taken, noted, remaining, all_notes, corners}
 use Rattle.traversal.specs.Discoveries.{parent_in, number_in}
 use Rattle.traversal.specs.declared.survey.Survey.{Survey}
 
-abbrev pub joins_in : List ℕ → ℕ → ℕ → Bool
-joins_in rows x y = bit (slice_index rows x) y
-
 abbrev pub part_in : ℕ → List ℕ → Part
-part_in tables rows = part_of (bit tables) (joins_in rows)
+part_in tables rows = part_of (bit tables) (in_row rows)
 
 abbrev pub Symmetric : (ℕ → ℕ → Bool) → Type 0
 Symmetric J = (x y : ℕ) → J x y ≡ J y x
+
+abbrev pub Without : ℕ → List ℕ → (ℕ → ℕ → Bool) → (ℕ → ℕ → Bool) → Type 0
+Without u l J K = (x y : ℕ) → K x y ≡ (not ((u == x && has l y) || (u == y && has l x)) && J x y)
 
 unfoldable pub others : (ℕ → ℕ → Bool) → ℕ → ℕ → ℕ → List ℕ
 others J u f a = passing (other u f a (part_of (λ _. false) J))
@@ -55,14 +59,18 @@ abbrev pub poured : {T : Type 0} → List T → ℕ → List T → List T
 poured slots k [] = slots
 poured slots k (x ∷ l) = poured (slice_set slots k x) (k + 1) l
 
+abbrev pub any : Option Step → List Step
+any (Some s) = s ∷ []
+any None = []
+
 abbrev pub Fits : Stack Step → List Step → Type 0
-Fits s l = s.len + length l ≤ length s.slots.now
+Fits s l = height_of s + length l ≤ length (slots_of s)
 
 pub record Lays (before after : Stack Step) (l : List Step) : Type 0 where
-  pub laid : Fits before l → after.slots.now ≡ poured before.slots.now before.len l
-  pub height : Fits before l → after.len ≡ before.len + length l
+  pub laid : Fits before l → slots_of after ≡ poured (slots_of before) (height_of before) l
+  pub height : Fits before l → height_of after ≡ height_of before + length l
   -- the stack is over the same lent slots
-  pub lender : after.slots.ghost_name ≡ before.slots.ghost_name
+  pub lender : lender_of after ≡ lender_of before
 
 unfoldable pub corners_of : (ℕ → Bool) → Triangle
 corners_of U = corners (passing U)

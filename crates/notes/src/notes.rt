@@ -1,18 +1,19 @@
 //! Tables taken away from a graph, and the notes of it, laid into lent records.
-//! stays: tables are plain numbers below 64, as in surveys and steps; a type of their own would be made and unmade at each call.
-ghost use Rattle.std.specs.Prelude.{◌≡◌, ℕ, ◌<◌, ◌≤◌, not, ◌&&◌, [], ◌∷◌, length, if◌then◌else◌, ◌==◌};
-ghost use Rattle.theory.specs.Build.{with_join};
-ghost use Rattle.bits.specs.Rows.{bit};
-ghost use Rattle.disassembly.specs.Walks.{without};
+//! stays: a table is a plain number, as in the traits, in steps and in refusals, where any number may come; a type of those below
+//! 64 would have to be made from each of them, and clauses, whose definitions are over numbers, would look through it.
+ghost use Rattle.std.specs.Prelude.{◌≡◌, ℕ, ◌<◌, ◌≤◌, not, ◌&&◌, [], ◌∷◌, length, ◌==◌};
+ghost use Rattle.std.specs.Bool.{then_some};
+ghost use Rattle.sets.specs.Set.{tables_of};
+ghost use Rattle.sets.specs.Rows.{in_row};
 ghost use Rattle.disassembly.specs.Disassembly.{nearest as nearest_to_root, corners as first_three};
 ghost use Rattle.disassembly.specs.Disassembly.{edge as edge_step, node as node_step, edges};
 ghost use Rattle.traversal.specs.Discoveries.{number_in};
-ghost use Rattle.notes.specs.Masks.{tables_of};
-ghost use Rattle.notes.specs.Notes.{joins_in, part_in, Symmetric, others, Lays, corners_of, list_laid};
+ghost use Rattle.notes.specs.Notes.{part_in, Symmetric, Without, others, Lays, any, corners_of, list_laid};
 ghost use Rattle.notes.specs.Notes.{taken_of, noted_of, remains_of, all_notes_of};
 
-use super::tables::Tables;
 use memory::stack::Stack;
+use sets::rows::Rows;
+use sets::set::TableSet;
 use theory::step::{Step, Triangle};
 use traversal::discovery::Discovery;
 use traversal::survey::Survey;
@@ -20,24 +21,25 @@ use traversal::survey::Survey;
 /// A part of a graph.
 #[derive(Drop)]
 pub struct Part {
-    /// Its tables, as bits.
-    pub tables: u64,
-    /// For each table, those that it is joined with, as bits.
-    pub rows: [u64; 64],
+    /// Its tables.
+    pub tables: TableSet,
+    /// For each table, those that it is joined with.
+    pub rows: Rows,
     /// Each join stands in the rows of both its tables.
-    pub ghost symmetric: { Symmetric (joins_in rows) },
+    pub ghost symmetric: { Symmetric (in_row rows) },
 }
 
 /// Of a table's parent and the tables of its row, in rising number, the first of lowest discovery number.
-fn nearest(row: u64, found: &[Discovery; 64], parent: u32) -> u32
+fn nearest(row: TableSet, found: &[Discovery; 64], parent: u32) -> u32
     requires { parent < 64 }
     ensures is { result ≡ nearest_to_root (number_in found.now) parent (tables_of row) }
     ensures within { result < 64 }
 {
     let mut best = parent;
     let mut low = found[parent as usize].number;
-    // stays: a loop that ends at the first number below which there is none; a fold would go through them all
-    for x in Tables(row) {
+    // stays: it ends at the first number below which there is none. `min_by_key` would go through the whole row: on the complete graph
+    // of 64 tables that is 2,013 tables looked at; here each row ends at its first table, the root, which makes 61
+    for x in row.tables() {
         // no number is lower
         if low == 0 {
             return best;
@@ -79,71 +81,41 @@ fn lay(note: Step, notes: &mut Stack<Step>)
     let _ = notes.push(note);
 }
 
-/// Notes the join of `f` and `a` where there is one.
-fn note_ends(joined: bool, f: u32, a: u32, notes: &mut Stack<Step>)
-    ensures { Lays notes.old notes.new (if joined then edge_step f a ∷ [] else []) }
+/// Lays a note where there is one.
+fn lay_any(note: Option<Step>, notes: &mut Stack<Step>)
+    ensures { Lays notes.old notes.new (any note) }
 {
-    if joined {
-        lay(edge(f, a), notes);
+    if let Some(step) = note {
+        lay(step, notes);
     }
 }
 
-/// A mask without a table, whether it is there or not.
-fn without_table(tables: u64, u: u32) -> u64
+/// Takes the joins of `u` with the tables of a set out, and notes them, in rising number.
+fn strip_others(rows: &mut Rows, u: u32, others: TableSet, notes: &mut Stack<Step>)
     requires { u < 64 }
-    ensures { (x : ℕ) → bit result x ≡ without u (bit tables) x }
+    ensures joins { Without u (tables_of others) (in_row rows.old) (in_row rows.new) }
+    ensures notes { Lays notes.old notes.new (edges u (tables_of others)) }
 {
-    tables & !(1u64 << u)
-}
-
-/// Takes `u` out of the rows of the tables of a mask, and notes its join with each, in rising number.
-fn strip_others(rows: &mut [u64; 64], u: u32, tables: u64, notes: &mut Stack<Step>)
-    requires { u < 64 }
-    ensures joins { (x y : ℕ) → joins_in rows.new x y ≡ (not (u == y && bit tables x) && joins_in rows.old x y) }
-    ensures notes { Lays notes.old notes.new (edges u (tables_of tables)) }
-    ensures long { length rows.new ≡ 64 }
-{
-    for v in Tables(tables) {
-        rows[v as usize] = without_table(rows[v as usize], u);
+    for v in others.tables() {
+        rows.unjoin(u, v);
         lay(edge(u, v), notes);
     }
 }
 
-// stays: the notes go beside the part; a struct of both would stand before each in every clause, and strip would take it apart again.
+/// Takes the joins of `u` out, and notes those with its neighbours other than `f` and `a`, in rising number.
+fn strip(rows: &mut Rows, u: u32, f: u32, a: u32, notes: &mut Stack<Step>)
+    requires tables { (u < 64) × ((f < 64) × (a < 64)) }
+    requires symmetric { Symmetric (in_row rows.old) }
+    ensures joins { (x y : ℕ) → in_row rows.new x y ≡ ((not (u == x) && not (u == y)) && in_row rows.old x y) }
+    ensures notes { Lays notes.old notes.new (edges u (others (in_row rows.old) u f a)) }
+{
+    strip_others(rows, u, rows.row(u).without(f).without(a), notes);
+    rows.unjoin(u, f);
+    rows.unjoin(u, a);
+}
+
+// stays: the notes go beside the part; a struct of both would stand before each in every clause.
 impl Part {
-    /// Whether two tables are joined.
-    fn joined(&self, a: u32, b: u32) -> bool
-        requires { (a < 64) × (b < 64) }
-        ensures { result ≡ joins_in self.now.rows a b }
-    {
-        (self.rows[a as usize] >> b) & 1 == 1
-    }
-
-    /// Puts the join of two tables in, whether it is there or not.
-    fn join(&mut self, a: u32, b: u32)
-        requires { (a < 64) × (b < 64) }
-        ensures joins { (x y : ℕ) → joins_in self.new.rows x y ≡ with_join a b (joins_in self.old.rows) x y }
-        ensures tables { self.new.tables ≡ self.old.tables }
-    {
-        self.rows[a as usize] |= 1u64 << b;
-        self.rows[b as usize] |= 1u64 << a;
-    }
-
-    /// Takes the joins of `u` out, and notes those with its neighbours other than `f` and `a`, in rising number.
-    fn strip(&mut self, u: u32, f: u32, a: u32, notes: &mut Stack<Step>)
-        requires { (u < 64) × ((f < 64) × (a < 64)) }
-        ensures joins { (x y : ℕ) → joins_in self.new.rows x y
-            ≡ ((not (u == x) && not (u == y)) && joins_in self.old.rows x y) }
-        ensures tables { self.new.tables ≡ self.old.tables }
-        ensures notes { Lays notes.old notes.new (edges u (others (joins_in self.old.rows) u f a)) }
-    {
-        let others = without_table(without_table(self.rows[u as usize], f), a);
-        strip_others(&mut self.rows, u, others, notes);
-        self.rows[f as usize] = without_table(self.rows[f as usize], u);
-        self.rows[a as usize] = without_table(self.rows[a as usize], u);
-        self.rows[u as usize] = 0;
-    }
-
     /// Takes `u` away: its joins with neighbours other than its parent and the nearest to the root go, then the join of these
     /// two where there is one, and then `u` and its last two joins are replaced by that join. Each removal is noted in its turn.
     fn take_away(&mut self, u: u32, survey: &Survey, notes: &mut Stack<Step>)
@@ -152,13 +124,13 @@ impl Part {
         ensures notes { Lays notes.old notes.new (noted_of survey.now u (part_in self.old.tables self.old.rows)) }
     {
         let f = survey.found[u as usize].parent;
-        let a = nearest(self.rows[u as usize], &survey.found, f);
-        let ends = self.joined(f, a);
-        self.strip(u, f, a, notes);
-        note_ends(ends, f, a, notes);
-        self.join(f, a);
+        let a = nearest(self.rows.row(u), &survey.found, f);
+        let ends = self.rows.joined(f, a).then_some(edge(f, a));
+        strip(&mut self.rows, u, f, a, notes);
+        lay_any(ends, notes);
+        self.rows.join(f, a);
         lay(node(u, f, a), notes);
-        self.tables = without_table(self.tables, u);
+        self.tables = self.tables.without(u);
     }
 
     /// Takes all but the last three of the tables that a search left away, in that order.
@@ -173,11 +145,12 @@ impl Part {
     }
 }
 
-/// The triangle of the three lowest tables of a mask; 0 stands for each that it does not have.
-fn corners(tables: u64) -> Triangle
+/// The triangle of the three lowest tables of a set; 0 stands for each that it does not have.
+// stays: `lay_list` has no precondition, so it answers a triangle of any part, with 0 for a corner that is not there
+fn corners(tables: TableSet) -> Triangle
     ensures { result ≡ first_three (tables_of tables) }
 {
-    let mut lowest = Tables(tables);
+    let mut lowest = tables.tables();
     Triangle {
         a: lowest.next().unwrap_or(0),
         b: lowest.next().unwrap_or(0),

@@ -1,4 +1,6 @@
 //! Why a program prints a refusal: its number, its layer and its place.
+//! stays: each enum of refusals has `number`, `place` and the like as methods of its own; nothing is generic over a refusal, so no
+//! trait has them.
 ghost use Rattle.std.specs.Prelude.{◌≡◌};
 ghost use Rattle.graph.specs.Layer.{layer_number};
 ghost use Rattle.outcomes.specs.Fault.{fault_number, fault_layer, fault_place};
@@ -57,10 +59,10 @@ impl ProgramFault {
         ensures { result ≡ fault_number self }
     {
         match self {
-            ProgramFault::Text(f) => f.number(),
-            ProgramFault::Replay(f) => f.number(),
-            ProgramFault::Query(f) => f.number(),
-            ProgramFault::Build(f) => f.number(),
+            ProgramFault::Text(fault) => fault.number(),
+            ProgramFault::Replay(fault) => fault.number(),
+            ProgramFault::Query(fault) => fault.number(),
+            ProgramFault::Build(fault) => fault.number(),
         }
     }
 
@@ -70,21 +72,22 @@ impl ProgramFault {
     {
         match self {
             ProgramFault::Text(_) => Layer::Text,
-            ProgramFault::Replay(f) => f.layer(),
-            ProgramFault::Query(f) => f.layer(),
-            ProgramFault::Build(f) => f.layer(),
+            ProgramFault::Replay(fault) => fault.layer(),
+            ProgramFault::Query(fault) => fault.layer(),
+            ProgramFault::Build(fault) => fault.layer(),
         }
     }
 
     /// The place in the text, the step, the table or the amount that it names, or 0.
+    // stays: an X line has a place in any case, and 0 is the one of a refusal that names none
     pub fn place(self) -> usize
         ensures { result ≡ fault_place self }
     {
         match self {
-            ProgramFault::Text(f) => f.place(),
-            ProgramFault::Replay(f) => f.place(),
-            ProgramFault::Query(f) => f.place(),
-            ProgramFault::Build(f) => f.value(),
+            ProgramFault::Text(fault) => fault.place(),
+            ProgramFault::Replay(fault) => fault.place(),
+            ProgramFault::Query(fault) => fault.place(),
+            ProgramFault::Build(fault) => fault.value(),
         }
     }
 }

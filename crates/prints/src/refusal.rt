@@ -6,6 +6,8 @@ use texts::fault::TextFault;
 use writer::line::put_line;
 
 /// Writes the X line of a refusal over the first bytes of `out`, and says how many they are. A refusal writes nothing.
+// stays: the layer is a number, as it is printed, and no `Layer`: any three numbers are answered, also those too large for their
+// fields, and a narrower type would take that from callers. One that has a `Layer` converts it by `u32::from`
 pub fn write_refusal(
     out: &mut [u8],
     number: u32,

@@ -7,7 +7,6 @@
 use Rattle.std.proofs.Common.{◌≡◌, ℕ, ◌+◌, ◌*◌, ◌≤◌, Bool, true, false, cond, eqb, List, ◌++◌, length, get_or, take, drop, Ok, Err, Result, sym, refl, ap, ◌∙◌, subst, arith}
 use Rattle.std.proofs.lemmas.List.{take_all, take_at}
 use Rattle.std.proofs.lemmas.Bool.{eqb-true, eq-eqb}
-use Rattle.std.proofs.lemmas.Bool.Decides.{nat_tests}
 use Rattle.construction.specs.Replay.{replayed}
 use Rattle.refusals.specs.declared.fault.ReplayFault.{ReplayFault}
 use Rattle.construction.proofs.Laws.{told_laws, accepted_size, replayed_tables}
@@ -25,6 +24,7 @@ use Rattle.texts.specs.declared.list.Heading.{Heading}
 use Rattle.texts.proofs.Back.{list_reads_back}
 use Rattle.texts.proofs.Lists.{same_text}
 use Rattle.texts.proofs.Stands.{list_text_length}
+use Rattle.theory.proofs.Sizes.{clamped_same}
 use Rattle.theory.specs.Build.{LegalBuild}
 use Rattle.theory.specs.Graph.{Graph, Simple, table_count, size, no_joins, clamped}
 use Rattle.theory.specs.declared.step.Step.{Step}
@@ -35,10 +35,6 @@ use Rattle.programs.specs.ReplayLaw.{BuildsGraph, Refuses}
 use Rattle.outcomes.specs.declared.fault.ProgramFault.{ProgramFault}
 use Rattle.programs.proofs.Prints.{number_small, layer_small}
 use Rattle.programs.proofs.Told.{clamped_simple, play_last}
-
--- a number of tables within the limits is taken as it is
-unclamped : (n : ℕ) → 3 ≤ n → n ≤ 64 → clamped n ≡ n
-unclamped n h k = grind (arith, nat_tests)
 
 -- what is accepted was read, ended and played
 pub record Accepted (text : List ℕ) (l : List Step) (g : Graph) : Type 0 where
@@ -84,7 +80,7 @@ law_built text l g simple e =
     let able = stands.listable in
     let m = no_joins (clamped h.tables) in
     let n : table_count g ≡ h.tables =
-    sym (ap (λ x. table_count x) a.left_graph) ∙ replayed_tables 2016 m h.triangle steps ∙ unclamped h.tables able.least able.most in
+    sym (ap (λ x. table_count x) a.left_graph) ∙ replayed_tables 2016 m h.triangle steps ∙ clamped_same h.tables (omega (arith, able.least)) able.most in
     let long : 34 + 17 * h.steps ≡ length text = let e = stands.ends in let f = a.ended in omega arith in
     let whole : text ≡ list_text h.tables h.triangle steps = sym (take_all (34 + 17 * h.steps) text (omega arith)) ∙ stands.stands in
     record {
@@ -135,7 +131,7 @@ module _ (text : List ℕ) (l : List Step) (room : 2013 ≤ length l) (g : Graph
   plays =
       let few : length s + 3 ≤ 2016 = able.few in
       ((told_laws 2016 m t s (clamped_simple (table_count g)) (replayed 2016 m t s).told (replayed 2016 m t s).graph refl refl).room refl (omega arith)).1
-      (g, sym (unclamped (table_count g) able.least able.most), legal)
+      (g, sym (clamped_same (table_count g) (omega (arith, able.least)) able.most), legal)
 
   pub is_accepted : replay_told text l ≡ Ok (replayed 2016 m t s).graph
   unfolding the_heading

@@ -3,8 +3,7 @@
 --   shown_within   what is shown fits
 --   done_built     a text that is accepted
 --   done_refused   a text that is refused
-use Rattle.std.proofs.Common.{◌≡◌, ℕ, ◌+◌, ◌≤◌, min, Bool, true, false, cond, ltb, List, [], length, take, drop, Ok, Err, Result, sym, refl, ap, ◌∙◌, subst, inl, inr, ⊎_elim, arith, length-take}
-use Rattle.std.proofs.lemmas.List.{take_at}
+use Rattle.std.proofs.Common.{◌≡◌, ℕ, ◌+◌, ◌≤◌, min, Bool, true, false, cond, ltb, List, [], length, take, Ok, Err, Result, sym, refl, ap, ◌∙◌, subst, inl, inr, ⊎_elim, arith, length-take}
 use Rattle.std.proofs.lemmas.Bool.{ltb-false}
 use Rattle.writer.specs.Laid.{laid}
 use Rattle.lines.proofs.Bytes.{line_length}
@@ -12,7 +11,7 @@ use Rattle.prints.specs.GraphText.{graph_length}
 use Rattle.prints.specs.Refusal.{refusal_line}
 use Rattle.texts.specs.ListRead.{list_read}
 use Rattle.texts.specs.declared.fault.TextFault.TheVariants.{TooFew}
-use Rattle.texts.proofs.Laying.{laid_whole, laid_length}
+use Rattle.texts.proofs.Laying.{laid_front, laid_length}
 use Rattle.theory.specs.Graph.{Graph, Simple, size}
 use Rattle.theory.specs.declared.step.Step.{Step}
 use Rattle.theory.proofs.Sizes.{size_most}
@@ -24,11 +23,6 @@ use Rattle.outcomes.specs.declared.fault.ProgramFault.{ProgramFault}
 use Rattle.outcomes.specs.declared.fault.ProgramFault.TheVariants.{Text}
 use Rattle.programs.proofs.Law.{law_built, built_length, law_refused}
 use Rattle.programs.proofs.Prints.{graph_bytes, shown_graph, shown_refusal}
-
--- the first bytes of what is laid over a text
-front : (text out : List ℕ) (r : ℕ) → r ≡ length out → length out ≤ length text → take r (laid text 0 out) ≡ out
-front text out r e room =
-    ap (λ k. take k (laid text 0 out)) e ∙ ap (take (length out)) (laid_whole text out room) ∙ take_at out (drop (length out) text) (length out) refl
 
 line_within : (b : ℕ) (f : ProgramFault) → 17 ≤ b → length (printed (Err f)) ≤ b
 line_within b f h = let bytes = line_length (refusal_line (fault_number f) (fault_layer f) (fault_place f)) in omega arith
@@ -65,7 +59,7 @@ module _ (text : List ℕ) (len : ℕ) (steps : List Step) (r : ℕ) (text' : Li
         within = omega arith;
         lies = lies ∙ ap (λ q. laid text 0 (shown b q)) answer;
         filled = filled;
-        law = λ room. subst (Replays (looked_at text len)) (sym (ap (take r) lies ∙ front text (shown b told) r count fits)) (law room);
+        law = λ room. subst (Replays (looked_at text len)) (sym (ap (take r) lies ∙ laid_front text (shown b told) r count fits)) (law room);
       }
 
   pub done_built : (g : Graph) → told ≡ Ok g → Simple g → Done text len steps r text' steps'

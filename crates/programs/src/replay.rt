@@ -11,22 +11,22 @@ ghost use Rattle.programs.specs.Replay.{meant, left, replay_told, shown};
 ghost use Rattle.programs.specs.Done.{Done, Paged};
 
 use super::refusal::lay_refusal;
-use super::workspace::{PAGE, TEXT};
+use super::workspace::{PAGE, part_read};
 use bits::table::BitTable;
 use construction::replay::replay;
 use outcomes::fault::ProgramFault;
 use prints::graph_text::write_graph;
 use refusals::fault::ReplayFault;
-use texts::list::{check_end, read_list};
-use theory::step::{Step, Triangle};
+use texts::list::{BuildList, check_end, read_list};
+use theory::step::Step;
 
-/// The graph that a triangle and steps build, in a new table of bits.
-fn play(tables: u32, triangle: Triangle, steps: &[Step]) -> Result<BitTable, ReplayFault>
-    ensures answer { meant result ≡ left (replayed 2016 (no_joins (clamped tables)) triangle steps.now) }
-    ensures near { IfErr result (λ f. replay_place f ≤ 64 + length steps.now) }
+/// The graph that a list builds, in a new table of bits.
+fn play(list: BuildList) -> Result<BitTable, ReplayFault>
+    ensures answer { meant result ≡ left (replayed 2016 (no_joins (clamped list.entry.tables)) list.entry.triangle list.entry.steps.now) }
+    ensures near { IfErr result (λ f. replay_place f ≤ 64 + length list.entry.steps.now) }
 {
-    let mut graph = BitTable::new(tables);
-    replay(&mut graph, triangle, steps)?;
+    let mut graph = BitTable::new(list.tables);
+    replay(&mut graph, list.triangle, list.steps)?;
     Ok(graph)
 }
 
@@ -37,9 +37,14 @@ fn build(text: &[u8], steps: &mut [Step]) -> Result<BitTable, ProgramFault>
     ensures filled { steps.new ≡ (list_read text.now 0 steps.old).records }
     ensures near { IfErr result (λ f. fault_place f ≤ 99999) }
 {
-    let list = read_list(text, 0, steps)?;
-    check_end(text, list.end)?;
-    let graph = play(list.tables, list.triangle, &steps[..list.steps])?;
+    let read = read_list(text, 0, steps)?;
+    check_end(text, read.end)?;
+    let list = BuildList {
+        tables: read.tables,
+        triangle: read.triangle,
+        steps: &steps[..read.steps],
+    };
+    let graph = play(list)?;
     Ok(graph)
 }
 
@@ -56,14 +61,14 @@ fn lay_graph(graph: &BitTable, text: &mut [u8]) -> usize
 
 /// Takes the first `len` bytes of the text as what was read, and lays what is to be printed over the text's first bytes; the
 /// answer is how many these are.
-// stays: the text and a length apart, what is printed lies over the same memory, past what was read, too
+// stays: the text and a length apart, what is printed lies over the same memory, past what was read, too; and a match on whether
+// a list was read and played back
 pub fn replay_text(text: &mut [u8], len: usize, steps: &mut [Step; 2013]) -> usize
     // the bytes printed, every byte of the text, and every step record, for whatever was read; in other words: a graph is
     // printed exactly where the text read is that of a legal build, and then the graph that it builds
     ensures { Done text.old len steps.old result text.new steps.new }
 {
-    let len = len.min(text.len()).min(TEXT);
-    match build(&text[..len], steps) {
+    match build(part_read(text, len), steps) {
         Ok(graph) => lay_graph(&graph, text),
         Err(fault) => lay_refusal(fault, text),
     }
@@ -74,7 +79,8 @@ pub fn replay_text(text: &mut [u8], len: usize, steps: &mut [Step; 2013]) -> usi
 pub fn replay_page(page: &mut [u8; PAGE], len: usize, steps: &mut [Step; 2013]) -> Option<usize>
     ensures { Paged page.old len steps.old result page.new steps.new }
 {
-    if len > 4062 {
+    // the text of a graph is 34 bytes longer than that of its list
+    if len > PAGE - 34 {
         return None;
     }
     Some(replay_text(page, len, steps))

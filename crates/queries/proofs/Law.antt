@@ -87,9 +87,6 @@ module _ (text : List ℕ) (at : ℕ) (l : List Mark) (rows : List RowRecord) (w
     module _ (js : List (ℕ × ℕ)) (g : Graph) (all : length js ≡ m) (ms l' : List Mark) (done : (length ms ≡ 0) ⊎ (length ms + 1 ≡ n))
         (unmarked : length ms ≡ 0 → byte text (place_after at js ms []) ≡ 77 → n ≡ 1) (way : Way text at l rows n m js ms [] g l' rows)
         (p : ℕ) (is : p ≡ place_after at js ms []) where
-      abbrev due : ℕ
-      due = due_rows text p
-
       inside : p ≤ length text
       inside = subst (λ q. q ≤ length text) (sym is) (begun_inside text at way.begun)
 

@@ -3,10 +3,10 @@
 --   JoinsRead, MarksRead, RowsRead     what was read, stage after stage, said of the text as it was lent
 --   joins_said, marks_said, rows_said  that the calls say so, each of the reader and of the graph that it was lent
 use Rattle.std.proofs.Common.{◌≡◌, ℕ, ◌+◌, ◌-◌, ◌*◌, ◌≤◌, Bool, true, false, cond, eqb, List, ◌++◌, length, take, drop, Ok, Err, Result, sym, ap, ap₂, ◌∙◌, arith}
-use Rattle.std.proofs.lemmas.Bool.Decides.{nat_tests}
 use Rattle.std.proofs.lemmas.List.{length-take-le}
 use Rattle.theory.specs.Graph.{Graph, no_joins, clamped}
 use Rattle.theory.specs.declared.mark.Mark.{Mark}
+use Rattle.theory.proofs.Sizes.{clamped_same}
 use Rattle.catalogue.specs.declared.catalogue.RowRecord.{RowRecord}
 use Rattle.lines.specs.Read.{byte}
 use Rattle.texts.specs.Reader.{past, past_lines}
@@ -21,9 +21,6 @@ use Rattle.queries.proofs.Steps.{joins_tables, marks_front}
 
 abbrev pub told_of : Result QueryHead QueryFault → Graph → List Mark → List RowRecord → QueryTold
 told_of r m l rows = record { told = r; graph = m; marks = l; rows = rows }
-
-pub clamped_same : (n : ℕ) → 1 ≤ n → n ≤ 64 → clamped n ≡ n
-clamped_same n a b = grind (arith, nat_tests)
 
 -- no more marks are owed than there are records for
 few_by : (b : Bool) (n room : ℕ) → n ≤ room + 1 → cond b (n - 1) 0 ≤ room

@@ -3,7 +3,7 @@
 --   ToldLine text p due line r    the answer r to reading a line at p with the letter `due`; `line` has the line of a value
 --   pair_told, row_told           of a J or M line, and of an R line
 --   head_told                     of the G line
-use Rattle.std.proofs.Common.{◌≡◌, ℕ, ◌+◌, ◌-◌, ◌≤◌, Bool, true, false, cond, eqb, ltb, List, Some, Ok, Err, Result, sym, refl, ap, subst, arith}
+use Rattle.std.proofs.Common.{◌≡◌, ℕ, ◌+◌, ◌-◌, ◌≤◌, Bool, true, false, cond, eqb, ltb, List, Some, Ok, Err, Result, sym, refl, subst, arith}
 use Rattle.std.proofs.lemmas.Bool.{eqb-true, eqb-false, ltb-true, ltb-false}
 use Rattle.lines.specs.Form.{LineRead, Longest}
 use Rattle.lines.specs.Read.{line_at}
@@ -19,14 +19,11 @@ use Rattle.texts.specs.Fault.{next, in_form}
 use Rattle.texts.specs.ListLaw.{Here}
 use Rattle.texts.specs.declared.fault.TextFault.{TextFault}
 use Rattle.texts.specs.declared.fault.TextFault.TheVariants.{BadForm, Misplaced, OutOfLimits, TooFew}
+use Rattle.texts.proofs.Refused.{apart}
 use Rattle.queries.specs.QueryLaw.{head_line, row_line, GoodHead, HeadAmiss}
 use Rattle.queries.specs.QueryRead.{outside_limits, head_of, head_at, pair_of, pair_at, row_of, row_line_at}
 use Rattle.rejections.specs.declared.fault.QueryFault.TheVariants.{Text}
 use Rattle.queries.specs.declared.query.Head.{Head}
-
--- two letters of two layouts are not the same
-apart : (c d : ℕ) (x y : Layout) → layout c ≡ Some x → layout d ≡ Some y → (x ≡ y → ⊥) → c ≡ d → ⊥
-apart c d x y p q never e = let s = ap layout e in never (cc)
 
 abbrev pub pair_line : ℕ → ℕ × ℕ → Line
 pair_line due e = record { letter = due; fields = LastTwo e.0 e.1 }

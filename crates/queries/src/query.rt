@@ -3,10 +3,13 @@
 //!
 //! The inner functions say in `answer` what they answer, in `effect` what they answer and leave, and in `onward` where the
 //! reader stands afterwards.
-//! stays: reader, graph and catalogue are lent apart, as the caller of `read_query` lends them. Who needs to know that there are
-//! at most 64 tables takes the graph, of which that always holds.
+//! stays: reader, graph and catalogue are three parameters. Of a struct that holds the three loans each method would owe, besides what
+//! it reads, that it lends the same three on. Who needs to know that there are at most 64 tables takes the graph, of which that
+//! always holds.
 ghost use Rattle.std.specs.Prelude.{◌≡◌, ℕ, ◌+◌, ◌-◌, ◌*◌, ◌<◌, ◌≤◌, length, IfOk, IfErr, OnOk};
+ghost use Rattle.theory.specs.Graph.{table_count};
 ghost use Rattle.bits.specs.Table.{graph_of};
+ghost use Rattle.catalogue.specs.Records.{records_of};
 ghost use Rattle.catalogue.specs.Rows.{row_answer, records_after};
 ghost use Rattle.texts.specs.Reader.{past, past_lines};
 ghost use Rattle.rejections.specs.Fault.{query_place};
@@ -20,7 +23,6 @@ use graph::fault::at_place;
 use graph::graph::{EditableGraph, ReadableGraph};
 use lines::line::Fields;
 use rejections::fault::QueryFault;
-use std::cmp::min;
 use texts::fault::TextFault;
 use texts::reader::Reader;
 use theory::mark::Mark;
@@ -42,7 +44,8 @@ pub struct QueryHead {
 }
 
 /// The G line, judged in the order 15, 16, 17, 9.
-// stays: that the reader has passed a line is said of each kind of line, since only its own clause says it to a caller
+// stays: here and below what differs is the pattern: a reader that took it as a closure would need the same match, an `Option` around
+// it, and a contract by the closure's. That the reader has passed a line, only its own clause says to a caller
 fn head_line(reader: &mut Reader, room: usize) -> Result<Head, TextFault>
     ensures answer { result ≡ head_at reader.old.text.now reader.old.at room }
     ensures within { IfOk result (λ h. (1 ≤ h.tables) × (h.tables ≤ 64) × (h.tables ≤ room + 1)) }
@@ -52,7 +55,7 @@ fn head_line(reader: &mut Reader, room: usize) -> Result<Head, TextFault>
     let line = reader.line()?;
     match (line.letter, line.fields) {
         ('G', Fields::FirstTwo(tables, joins)) => {
-            if tables < 1 || tables > 64 || joins > 2016 {
+            if !(1..=64).contains(&tables) || joins > 2016 {
                 return Err(TextFault::OutOfLimits { place: at });
             }
             let marks = tables as usize - 1;
@@ -117,6 +120,7 @@ fn read_joins<G: EditableGraph>(
         ≡ record { told = result; left = G.ReadableGraph.meaning graph.new } }
     ensures onward { OnOk result (reader.new ≡ past_lines count reader.old) }
 {
+    // stays: the head says how many lines are owed, and nothing is indexed by their number
     for _ in 0..count {
         read_join(reader, graph)?;
     }
@@ -125,7 +129,7 @@ fn read_joins<G: EditableGraph>(
 
 /// How many M lines are owed: one for each table but one, where the first is begun.
 fn marks_due(reader: &Reader, graph: &BitTable) -> usize
-    ensures { result ≡ due_marks graph.now.count reader.now.text.now reader.now.at }
+    ensures { result ≡ due_marks (table_count (graph_of graph.now)) reader.now.text.now reader.now.at }
 {
     match reader.text.get(reader.at) {
         Some(b'M') => graph.tables() as usize - 1,
@@ -148,8 +152,8 @@ fn read_marks(reader: &mut Reader, marks: &mut [Mark]) -> Result<(), QueryFault>
 
 /// Sets the record of one of the query's tables.
 fn set_row(rows: &mut Catalogue, graph: &BitTable, table: u32, stored: i64) -> Result<(), RowFault>
-    ensures answer { result ≡ row_answer graph.now.count table stored }
-    ensures left { rows.new.records ≡ records_after result rows.old.records table stored }
+    ensures answer { result ≡ row_answer (table_count (graph_of graph.now)) table stored }
+    ensures left { records_of rows.new ≡ records_after result (records_of rows.old) table stored }
 {
     if table >= graph.tables() {
         return Err(RowFault::UnknownTable { table });
@@ -159,8 +163,8 @@ fn set_row(rows: &mut Catalogue, graph: &BitTable, table: u32, stored: i64) -> R
 
 /// An R line: its table's record is set.
 fn read_row(reader: &mut Reader, graph: &BitTable, rows: &mut Catalogue) -> Result<(), QueryFault>
-    ensures effect { row_at graph.now.count reader.old.text.now reader.old.at rows.old.records
-        ≡ record { told = result; left = rows.new.records } }
+    ensures effect { row_at (table_count (graph_of graph.now)) reader.old.text.now reader.old.at (records_of rows.old)
+        ≡ record { told = result; left = records_of rows.new } }
     ensures onward { OnOk result (reader.new ≡ past reader.old) }
 {
     let at = reader.at;
@@ -174,7 +178,7 @@ fn rows_due(reader: &Reader) -> usize
     ensures { result ≡ due_rows reader.now.text.now reader.now.at }
 {
     let rest = reader.text.len().saturating_sub(reader.at);
-    min(rest.div_ceil(17), 64)
+    rest.div_ceil(17).min(64)
 }
 
 /// The first `count` R lines.
@@ -184,10 +188,11 @@ fn read_row_lines(
     graph: &BitTable,
     rows: &mut Catalogue,
 ) -> Result<(), QueryFault>
-    ensures effect { rows_read graph.now.count reader.old.text.now reader.old.at count rows.old.records
-        ≡ record { told = result; left = rows.new.records } }
+    ensures effect { rows_read (table_count (graph_of graph.now)) reader.old.text.now reader.old.at count (records_of rows.old)
+        ≡ record { told = result; left = records_of rows.new } }
     ensures onward { OnOk result (reader.new ≡ past_lines count reader.old) }
 {
+    // stays: the text's length says how many lines are owed, and nothing is indexed by their number
     for _ in 0..count {
         read_row(reader, graph, rows)?;
     }
@@ -200,9 +205,9 @@ fn read_rows(
     graph: &BitTable,
     rows: &mut Catalogue,
 ) -> Result<usize, QueryFault>
-    ensures answer { result ≡ rows_ended graph.now.count reader.old.text.now reader.old.at rows.old.records }
-    ensures left { rows.new.records
-        ≡ (rows_read graph.now.count reader.old.text.now reader.old.at (due_rows reader.old.text.now reader.old.at) rows.old.records).left }
+    ensures answer { result ≡ rows_ended (table_count (graph_of graph.now)) reader.old.text.now reader.old.at (records_of rows.old) }
+    ensures left { records_of rows.new
+        ≡ (rows_read (table_count (graph_of graph.now)) reader.old.text.now reader.old.at (due_rows reader.old.text.now reader.old.at) (records_of rows.old)).left }
 {
     let count = rows_due(reader);
     read_row_lines(reader, count, graph, rows)?;
@@ -217,8 +222,8 @@ fn read_lines(
     marks: &mut [Mark],
     rows: &mut Catalogue,
 ) -> Result<QueryHead, QueryFault>
-    ensures { query_read reader.old.text.now reader.old.at marks.old rows.old.records
-        ≡ record { told = result; graph = graph_of graph.new; marks = marks.new; rows = rows.new.records } }
+    ensures { query_read reader.old.text.now reader.old.at marks.old (records_of rows.old)
+        ≡ record { told = result; graph = graph_of graph.new; marks = marks.new; rows = records_of rows.new } }
 {
     *graph = BitTable::new(1);
     let head = head_line(reader, marks.len())?;
@@ -245,15 +250,15 @@ pub fn read_query(
     rows: &mut Catalogue,
 ) -> Result<QueryHead, QueryFault>
     // line by line as the definition reads; earlier lines keep their effect
-    ensures answer { result ≡ (query_read text.now at marks.old rows.old.records).told }
-    ensures meant { graph_of graph.new ≡ (query_read text.now at marks.old rows.old.records).graph }
-    ensures marked { marks.new ≡ (query_read text.now at marks.old rows.old.records).marks }
-    ensures counted { rows.new.records ≡ (query_read text.now at marks.old rows.old.records).rows }
+    ensures answer { result ≡ (query_read text.now at marks.old (records_of rows.old)).told }
+    ensures meant { graph_of graph.new ≡ (query_read text.now at marks.old (records_of rows.old)).graph }
+    ensures marked { marks.new ≡ (query_read text.now at marks.old (records_of rows.old)).marks }
+    ensures counted { records_of rows.new ≡ (query_read text.now at marks.old (records_of rows.old)).rows }
     // an accepted text is exactly that of its lines: a G line, its J lines, no M line or one for each table but one, up to 64
     // R lines; the graph has the joins of the J lines, the first records the marks, each table the count of its last R line
-    ensures accepted { QueryAccepted text.now at marks.old rows.old.records result (graph_of graph.new) marks.new rows.new.records }
+    ensures accepted { QueryAccepted text.now at marks.old (records_of rows.old) result (graph_of graph.new) marks.new (records_of rows.new) }
     // a refused text has the fault told at its first line that is amiss, and the lines before it keep their effect
-    ensures refused { QueryRefused text.now at marks.old rows.old.records result (graph_of graph.new) marks.new rows.new.records }
+    ensures refused { QueryRefused text.now at marks.old (records_of rows.old) result (graph_of graph.new) marks.new (records_of rows.new) }
     // no place or amount named is far beyond the text
     ensures near { IfErr result (λ f. query_place f ≤ at + length text.now + 63) }
 {

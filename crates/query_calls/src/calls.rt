@@ -58,6 +58,7 @@ fn query_without_marks(rt: HostRuntime) {
 }
 
 /// What a text tells: its head, or the number, the layer and the place of its refusal.
+// stays: the three numbers of the X line are what is tested
 fn told(
     text: &[u8],
     graph: &mut BitTable,

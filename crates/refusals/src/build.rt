@@ -1,5 +1,5 @@
 //! Why a build request is refused.
-//! stays: the numbers are those of the X lines; a definition gives each case its own, so they stand written out.
+//! stays: the numbers are those of the X lines. An enum whose cases carry values gives none by `as`, so a match does.
 ghost use Rattle.std.specs.Prelude.{◌≡◌};
 ghost use Rattle.graph.specs.Layer.{layer_number};
 ghost use Rattle.refusals.specs.Build.{build_number, build_value, build_layer};
@@ -33,6 +33,7 @@ impl BuildFault {
     }
 
     /// The table or the amount that it names, and 0 where it names none.
+    // stays: an X line has a place in any case, and 0 is the one of a refusal that names none
     pub fn value(self) -> usize
         ensures { result ≡ build_value self }
     {

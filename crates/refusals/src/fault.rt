@@ -1,5 +1,5 @@
 //! Why a replay refuses. A store's refusal is carried whole, with the number of its step.
-//! stays: the numbers are those of the X lines; a definition gives each case its own, so they stand written out.
+//! stays: the numbers are those of the X lines. An enum whose cases carry values gives none by `as`, so a match does.
 ghost use Rattle.std.specs.Prelude.{◌≡◌};
 ghost use Rattle.graph.specs.Layer.{layer_number};
 ghost use Rattle.refusals.specs.Fault.{replay_number, replay_step, replay_values, replay_layer, replay_place};
@@ -41,6 +41,7 @@ impl ReplayFault {
     }
 
     /// The step that it names: the first is 1, and 0 is the triangle, or none.
+    // stays: an X line has a place in any case, and 0 is the one of a refusal that names none
     pub fn step(self) -> usize
         ensures { result ≡ replay_step self }
     {
@@ -52,6 +53,7 @@ impl ReplayFault {
     }
 
     /// What a store's refusal names, or the table, and 0 where there is no more.
+    // stays: callers are promised two numbers; who wants to know which of them a case names matches the case
     pub fn values(self) -> [u32; 2]
         ensures { result ≡ replay_values self }
     {
@@ -74,6 +76,7 @@ impl ReplayFault {
     }
 
     /// The step that it names, or the table that no step has put into use, or 0.
+    // stays: an X line has a place in any case, and 0 is the one of a refusal that names none
     pub fn place(self) -> usize
         ensures { result ≡ replay_place self }
     {
@@ -85,15 +88,12 @@ impl ReplayFault {
 }
 
 /// The place is the step: 0 is the triangle, and the first step is 1.
-// stays: `?` asks for one conversion for each error. The case names what the place is (a step), as the offset in
-// `QueryFault`; `At` has one word for both
+// stays: the case says `step`, as `InUse` and `NotInUse` do; an `At` in it would call the same number `place`. The conversion stays
+// either way: `?` asks for it
 impl From<At<StoreFault>> for ReplayFault {
     ghost from_gives = { λ p r. r ≡ Store p.place p.fault };
 
-    fn from(refused: At<StoreFault>) -> ReplayFault {
-        ReplayFault::Store {
-            step: refused.place,
-            fault: refused.fault,
-        }
+    fn from(At { place, fault }: At<StoreFault>) -> ReplayFault {
+        ReplayFault::Store { step: place, fault }
     }
 }

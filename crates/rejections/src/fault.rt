@@ -23,35 +23,29 @@ pub enum QueryFault {
 impl From<TextFault> for QueryFault {
     ghost from_gives = { λ f r. r ≡ Text f };
 
-    fn from(f: TextFault) -> QueryFault {
-        QueryFault::Text(f)
+    fn from(text: TextFault) -> QueryFault {
+        QueryFault::Text(text)
     }
 }
 
 /// The place is the offset of the J line.
-// stays: `?` asks for one conversion for each error. The cases name what the place is (an offset), as the step in
-// `ReplayFault`; `At` has one word for both
+// stays: an `At` in the case would be taken apart at each match, as `Join(At { place, fault })`, and this conversion, for which `?` asks,
+// would stand here just the same
 impl From<At<StoreFault>> for QueryFault {
     ghost from_gives = { λ p r. r ≡ Join p.place p.fault };
 
-    fn from(join: At<StoreFault>) -> QueryFault {
-        QueryFault::Join {
-            place: join.place,
-            fault: join.fault,
-        }
+    fn from(At { place, fault }: At<StoreFault>) -> QueryFault {
+        QueryFault::Join { place, fault }
     }
 }
 
 /// The place is the offset of the R line.
-// stays: the case names what the place is (an offset), as the step in `ReplayFault`; `At` has one word for both
+// stays: as above; a join's refusal and a row count's are two cases
 impl From<At<RowFault>> for QueryFault {
     ghost from_gives = { λ p r. r ≡ Row p.place p.fault };
 
-    fn from(row: At<RowFault>) -> QueryFault {
-        QueryFault::Row {
-            place: row.place,
-            fault: row.fault,
-        }
+    fn from(At { place, fault }: At<RowFault>) -> QueryFault {
+        QueryFault::Row { place, fault }
     }
 }
 

@@ -10,7 +10,8 @@ use streams::input::{read_rest, read_whole, take_over};
 use theory::step::Step;
 
 /// Reads on into memory for the longest text, where a page was not enough, and prints.
-// stays: apart from `assemble`, which reads on in two turns, and lends more: a trait over both is longer than the two functions
+// stays: apart from `assemble`, which reads on in two turns and lends more: a function over both would take the size and place of
+// what was read, whether the input has ended, and the program as a closure over the records
 fn replay_long<R: Read, W: Write>(
     input: &mut R,
     output: &mut W,
@@ -25,7 +26,7 @@ fn replay_long<R: Read, W: Write>(
         len = read_rest(input, &mut text, PAGE)?;
     }
     let n = replay_text(&mut text, len, steps);
-    output.write_all(&text[0..n])
+    output.write_all(&text[..n])
 }
 
 fn main(rt: HostRuntime) -> io::Result<()> {
@@ -37,7 +38,7 @@ fn main(rt: HostRuntime) -> io::Result<()> {
     let mut output = rt.stdout();
     let len = read_whole(&mut input, &mut page)?;
     match replay_page(&mut page, len, &mut steps) {
-        Some(n) => output.write_all(&page[0..n]),
+        Some(n) => output.write_all(&page[..n]),
         None => replay_long(&mut input, &mut output, &page, len, &mut steps),
     }
 }

@@ -5,6 +5,7 @@
 --   count_along      how the cross count moves from a table's parent to the table
 use Rattle.std.proofs.Common.{◌≡◌, ℕ, ◌+◌, ◌<◌, ◌≤◌, Bool, true, false, not, ◌&&◌, ◌↔◌, sym, refl, ap, ◌∙◌, subst, ap₂, inl, inr, ⊎_elim, arith}
 use mathlib.Core.Bool.{and_comm}
+use Rattle.std.specs.Cmp.{both_ways as same_test}
 use Rattle.std.proofs.lemmas.Bool.{cases_eq, cases_Bool, both_ways, lt-ltb}
 use Rattle.std.proofs.lemmas.Bool.Decides.{nat_tests}
 use Rattle.theory.specs.Graph.{Graph, Simple, joined, is_table, table_count, count, pairs}
@@ -114,9 +115,6 @@ module _ (t : Graph) (g : Spanning t) (s : ℕ) (s0 : s ≡ 0 → ⊥) (sn : s <
   p_s_back b bn k h = ⊎_elim p_not_s (⊎_elim (λ e. k (subst (λ x. Under t s x) (sym e) self))
       (λ n. n (join_walks (turned (turn s) (beside_walk t simple (parent_in t) 0 (rank_in t) hangs s (hangs.rooted p pn) pn above))
       (beside_walk t simple (parent_in t) 0 (rank_in t) hangs s (hangs.rooted b bn) bn k)))) h
-
-  same_test : (x y : Bool) → (x ≡ true → y ≡ true) → (y ≡ true → x ≡ true) → x ≡ y
-  same_test x y to back = grind arith
 
   path_same : (a b : ℕ) → (a ≡ s → ⊥) → (a ≡ p → ⊥) → on_path t s a b ≡ on_path t p a b
   path_same a b k l = same_test (on_path t s a b) (on_path t p a b)

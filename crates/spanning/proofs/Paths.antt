@@ -7,6 +7,7 @@
 --   cross_not, cross_none
 --                         when a join is not a cross join, and what that tells
 use Rattle.std.proofs.Common.{◌≡◌, ℕ, ◌<◌, Bool, true, false, not, ◌&&◌, ◌||◌, eqb, ◌⊎◌, ◌↔◌, sym, ◌∙◌, inl, inr, ⊎_elim, arith}
+use Rattle.std.specs.Cmp.{both_ways as same_test}
 use Rattle.std.proofs.lemmas.Bool.{cases_eq, cases_Bool, both_ways, lt-ltb}
 use Rattle.std.proofs.lemmas.Bool.Decides.{nat_tests}
 use Rattle.theory.specs.Graph.{Graph, Simple, joined, is_table, table_count}
@@ -75,9 +76,6 @@ module _ (t : Graph) (s : Simple t) (f : ℕ → ℕ) (r : ℕ) (rank : ℕ → 
 
   pub path_under : (a b : ℕ) (under : Bool) → b < table_count t → (under ≡ true) ↔ Over f r a b → on_path t r a b ≡ under
   path_under a b under l tells-under = same_test (on_path t r a b) under (λ p. tells-under.1 (path_over a b l p)) (λ u. over_path a b (tells-under.0 u))
-    where
-      same_test : (x y : Bool) → (x ≡ true → y ≡ true) → (y ≡ true → x ≡ true) → x ≡ y
-      same_test x y to back = grind arith
 
 -- ---- cross joins
 

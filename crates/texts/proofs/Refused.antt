@@ -1,5 +1,6 @@
 -- A list that is refused has the fault that is told, and nothing is amiss before it.
 --
+--   apart          two letters of two layouts are not the same
 --   line_told      a T line or a step line: it stands there with a letter due, or what is told of it is so
 --   head_told      the H line, likewise
 --   refused_text   the whole list
@@ -26,8 +27,7 @@ use Rattle.texts.specs.declared.fault.TextFault.{TextFault}
 use Rattle.texts.specs.declared.fault.TextFault.TheVariants.{BadForm, Misplaced, OutOfLimits, TooFew}
 use Rattle.texts.specs.declared.list.Head.{Head}
 
--- two letters of two layouts are not the same
-apart : (c d : ℕ) (x y : Layout) → layout c ≡ Some x → layout d ≡ Some y → (x ≡ y → ⊥) → c ≡ d → ⊥
+pub apart : (c d : ℕ) (x y : Layout) → layout c ≡ Some x → layout d ≡ Some y → (x ≡ y → ⊥) → c ≡ d → ⊥
 apart c d x y p q never e = let s = ap layout e in never (cc)
 
 -- a judgement of the letter c on the i-th line, at p

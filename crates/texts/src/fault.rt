@@ -1,5 +1,5 @@
 //! Why a text is refused.
-//! stays: the numbers are those of the X lines; a definition gives each case its own, so they stand written out.
+//! stays: the numbers are those of the X lines. An enum whose cases carry values gives none by `as`, so a match does.
 ghost use Rattle.std.specs.Prelude.{◌≡◌};
 ghost use Rattle.texts.specs.Fault.{text_number, text_value};
 ghost use Rattle.texts.specs.declared.fault.TextFault.TheVariants.{BadForm};
@@ -46,9 +46,9 @@ impl TextFault {
         ensures { result ≡ text_value self }
     {
         match self {
-            TextFault::BadForm { place } => place,
-            TextFault::Misplaced { place } => place,
-            TextFault::OutOfLimits { place } => place,
+            TextFault::BadForm { place }
+            | TextFault::Misplaced { place }
+            | TextFault::OutOfLimits { place } => place,
             TextFault::TooFew { needed } => needed,
         }
     }

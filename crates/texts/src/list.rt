@@ -18,6 +18,15 @@ pub struct Head {
     pub steps: usize,
 }
 
+/// A build list: the number of tables, the triangle, and the steps after it.
+// stays: the steps themselves; what fills records that are lent can only tell how many of them are steps
+#[derive(Clone, Copy)]
+pub struct BuildList<'a> {
+    pub tables: u32,
+    pub triangle: Triangle,
+    pub steps: &'a [Step],
+}
+
 /// A list that was read: its tables, its triangle, how many step records it fills, and where its text ends.
 #[derive(Clone, Copy, PartialEq, Eq, Debug)]
 pub struct Heading {
@@ -29,7 +38,8 @@ pub struct Heading {
 
 impl Reader<'_> {
     /// The H line, judged in the order 15, 16, 17, 9.
-    // stays: that the reader has passed a line is said of each kind of line, since only its own clause says it to a caller
+    // stays: here and below what differs is the pattern: a reader that took it as a closure would need the same match, an `Option` around
+    // it, and a contract by the closure's. That the reader has passed a line, only its own clause says to a caller
     fn head(&mut self, room: usize) -> Result<Head, TextFault>
         ensures answer { result ≡ head_at self.old.text.now self.old.at room }
         ensures room { IfOk result (λ h. h.steps ≤ room) }
@@ -39,7 +49,10 @@ impl Reader<'_> {
         let line = self.line()?;
         match (line.letter, line.fields) {
             ('H', Fields::Three(tables, joins, steps)) => {
-                if tables < 3 || tables > 64 || joins > 2016 || joins < 3 || steps != joins - 3 {
+                if !(3..=64).contains(&tables)
+                    || !(3..=2016).contains(&joins)
+                    || steps != joins - 3
+                {
                     return Err(TextFault::OutOfLimits { place: at });
                 }
                 let steps = steps as usize;

@@ -1,4 +1,5 @@
 //! Writing a build list over bytes that are lent. A refusal writes nothing.
+//! stays: 99,999 is the largest number of a field, written out as the definitions have it.
 ghost use Rattle.std.specs.Prelude.{◌≡◌, ℕ, ◌+◌, ◌-◌, ◌*◌, ◌<◌, ◌≤◌, length};
 ghost use Rattle.std.specs.List.{flat_map, position};
 ghost use Rattle.writer.specs.Laid.{laid, laid_line};
@@ -7,7 +8,8 @@ ghost use Rattle.texts.specs.ListWrite.{step_over, steps_over, list_write_answer
 ghost use Rattle.texts.specs.ListLaw.{ReadsBack};
 
 use super::fault::TextFault;
-use theory::step::{Step, Triangle};
+use super::list::BuildList;
+use theory::step::Step;
 use writer::line::put_line;
 
 /// Whether a number of the step is too large for its field.
@@ -60,19 +62,19 @@ fn put_steps(out: &mut [u8], steps: &[Step])
 }
 
 /// Writes the text of a list over the first bytes of `out`, and says how many they are.
-pub fn write_list(
-    out: &mut [u8],
-    tables: u32,
-    triangle: Triangle,
-    steps: &[Step],
-) -> Result<usize, TextFault>
-    ensures answer { result ≡ list_write_answer tables triangle steps.now (length out.old) }
+pub fn write_list(out: &mut [u8], list: BuildList) -> Result<usize, TextFault>
+    ensures answer { result ≡ list_write_answer list.entry.tables list.entry.triangle list.entry.steps.now (length out.old) }
     // a refusal writes nothing, and bytes past the text keep their contents
-    ensures written { out.new ≡ list_written tables triangle steps.now out.old }
+    ensures written { out.new ≡ list_written list.entry.tables list.entry.triangle list.entry.steps.now out.old }
     // what is written reads back as the same list
-    ensures back { ReadsBack tables triangle steps.now out.new result }
+    ensures back { ReadsBack list.entry.tables list.entry.triangle list.entry.steps.now out.new result }
 {
-    if tables < 3 || tables > 64 || steps.len() > 2013 {
+    let BuildList {
+        tables,
+        triangle,
+        steps,
+    } = list;
+    if !(3..=64).contains(&tables) || steps.len() > 2013 {
         return Err(TextFault::OutOfLimits { place: 0 });
     }
     if triangle.a > 99999 || triangle.b > 99999 || triangle.c > 99999 {

@@ -7,12 +7,14 @@
 --   joining_flip, joining_back                         a pair can be named either way round; what is taken out can be put back
 --   joining_size, unjoining_size, no_joins_size        their sizes
 --   size_most                                          64 tables have 2016 pairs
+--   with_adj, alike                                    a graph of so many tables with these joins; joins that agree on every pair make one graph
+--   clamped_same                                       a number of tables within the limits is not clamped
 use Rattle.std.proofs.Common.{◌≡◌, ℕ, zero, suc, ◌+◌, ◌-◌, ◌*◌, ◌<◌, ◌≤◌, Bool, true, false, cond, not, ◌&&◌, ◌||◌, eqb, sym, refl, ap, ◌∙◌, ap₂, ⊎_elim, suc-mul, mul-le-mul, mul-suc, arith}
 use mathlib.Core.Path.{fun_ext}
 use borrow.Author.Tests.{clash}
 use Rattle.std.proofs.lemmas.Bool.Decides.{nat_tests}
 use Rattle.std.proofs.lemmas.Bool.{cases_eq, cases_order, or_cases, and_parts, and_right}
-use Rattle.theory.specs.Graph.{Graph, Simple, same_pair, joining, unjoining, no_joins, count, pairs, size}
+use Rattle.theory.specs.Graph.{Graph, Simple, same_pair, joining, unjoining, no_joins, clamped, count, pairs, size}
 
 -- ---- one pair against another
 
@@ -120,6 +122,14 @@ size_most m few =
     let all : m.tables * (m.tables - 1) ≤ 64 * 63 = mul-le-mul few less in
     omega arith
 
+-- ---- one graph
+
+abbrev pub with_adj : ℕ → (ℕ → ℕ → Bool) → Graph
+with_adj n J = record { tables = n; adj = J }
+
+pub alike : (n : ℕ) (J K : ℕ → ℕ → Bool) → ((x y : ℕ) → J x y ≡ K x y) → with_adj n J ≡ with_adj n K
+alike n J K same = ap (with_adj n) (fun_ext (λ x. fun_ext (same x)))
+
 -- ---- one pair put in
 
 pub joining_simple : (m : Graph) (a b : ℕ) → a < m.tables → b < m.tables → (a ≡ b → ⊥) → Simple m → Simple (joining m a b)
@@ -131,11 +141,8 @@ joining_simple m a b ha hb ne s = record {
   within = λ x y e. ⊎_elim (λ p. pair_within m.tables a b x y ha hb p) (λ q. s.within x y q) (or_cases (same_pair a b x y) (m.adj x y) e);
 }
 
-abbrev with_adj : ℕ → (ℕ → ℕ → Bool) → Graph
-with_adj n J = record { tables = n; adj = J }
-
 pub joining_flip : (m : Graph) (a b : ℕ) → joining m a b ≡ joining m b a
-joining_flip m a b = ap (with_adj m.tables) (fun_ext (λ x. fun_ext (λ y. ap (λ c. c || m.adj x y) (pair_flip a b x y))))
+joining_flip m a b = alike m.tables (joining m a b).adj (joining m b a).adj (λ x y. ap (λ c. c || m.adj x y) (pair_flip a b x y))
 
 joining_size_up : (m : Graph) (a b : ℕ) → a < b → b < m.tables → m.adj a b ≡ false → size (joining m a b) ≡ size m + 1
 joining_size_up m a b l hb free =
@@ -169,7 +176,7 @@ put_back true v h = sym (h refl)
 put_back false v h = refl
 
 pub joining_back : (m : Graph) (a b : ℕ) → Simple m → m.adj a b ≡ true → joining (unjoining m a b) a b ≡ m
-joining_back m a b s held = ap (with_adj m.tables) (fun_ext (λ x. fun_ext (λ y. put_back (same_pair a b x y) (m.adj x y) (pair_adj m a b x y s held))))
+joining_back m a b s held = alike m.tables (joining (unjoining m a b) a b).adj m.adj (λ x y. put_back (same_pair a b x y) (m.adj x y) (pair_adj m a b x y s held))
 
 pub unjoining_size : (m : Graph) (a b : ℕ) → a < m.tables → b < m.tables → (a ≡ b → ⊥) → Simple m → m.adj a b ≡ true → size m ≡ size (unjoining m a b) + 1
 unjoining_size m a b ha hb ne s held =
@@ -188,3 +195,8 @@ no_joins_size (suc n) = ap₂ ◌+◌ (no_joins_size n) (count_none n)
 
 pub no_joins_simple : (n : ℕ) → 1 ≤ n → n ≤ 64 → Simple (no_joins n)
 no_joins_simple n some few = record { some = some; few = few; symmetric = λ _ _. refl; loopless = λ _. refl; within = λ _ _ e. absurd (clash e) }
+
+-- ---- how many tables
+
+pub clamped_same : (n : ℕ) → 1 ≤ n → n ≤ 64 → clamped n ≡ n
+clamped_same n some few = grind (arith, nat_tests)

@@ -1,13 +1,12 @@
 -- A finished search that discovered all tables, as its survey tells it, and the way through the tables in the order of leaving.
 --
 --   some_left, start_last     at least one table was left, and the start as the last
---   way_fits                  the low points stay sets of 64 tables
 --   way_start, way_on         the low points before the first table, and after one more
 --   way_end                   after all but the start, the articulation tables
-use Rattle.std.proofs.Common.{◌≡◌, ℕ, suc, ◌+◌, ◌-◌, ◌^◌, ◌<◌, ◌≤◌, Bool, true, false, List, [], ◌∷◌, length, get_or, set, cond, not, eqb, sym, ap, ◌∙◌, subst, arith, length-set}
+use Rattle.std.proofs.Common.{◌≡◌, ℕ, zero, suc, ◌+◌, ◌-◌, ◌<◌, ◌≤◌, Bool, true, false, ◌&&◌, ◌||◌, List, [], ◌∷◌, length, get_or, replicate, eqb, sym, ap, ◌∙◌, subst, arith}
+use Rattle.std.proofs.lemmas.Bool.Decides.{nat_tests}
 use mathlib.Core.Path.{fun_ext}
-use lib.Bits.{bit_and, bit_or}
-use Rattle.std.proofs.lemmas.Nat.{or_lt}
+use Rattle.std.specs.Cmp.{both_ways as same_test}
 use Rattle.std.proofs.lemmas.Bool.{both_ways}
 use Rattle.disassembly.specs.Search.{has, Visit, searched}
 use Rattle.disassembly.specs.Reach.{separates}
@@ -15,38 +14,20 @@ use Rattle.disassembly.proofs.Members.{has_head, absent, Distinct}
 use Rattle.disassembly.proofs.Searches.{searched_visit}
 use Rattle.disassembly.proofs.Visits.{visit_last, kept}
 use Rattle.disassembly.proofs.Reach.{separates_exactly}
-use Rattle.bits.specs.Rows.{bit}
+use Rattle.sets.specs.Set.{bit}
+use Rattle.sets.proofs.Bit.{zero_bit}
 use Rattle.traversal.specs.Discoveries.{number_in, earlier_in}
-use Rattle.traversal.specs.Sets.{one_bit}
-use Rattle.traversal.specs.Standing.{row_joins}
-use Rattle.traversal.specs.Folding.{parent_of, folded, Whole}
+use Rattle.sets.specs.Rows.{in_row}
+use Rattle.traversal.specs.Folding.{parent_of, touches, cuts_off_by, Folds, Whole}
 use Rattle.traversal.specs.declared.survey.Survey.{Survey}
 use Rattle.traversal.specs.declared.lows.Lows.{Lows}
-use Rattle.traversal.proofs.Stacks.{set_small, stacked, stacked_length, stacked_all}
+use Rattle.traversal.proofs.Stacks.{stacked, stacked_length, stacked_all}
 use Rattle.traversal.proofs.Before.{stacked_in, stacked_part}
 use Rattle.traversal.proofs.Cuts.{Folded, fold_start, Ord, ord_tail, ord_all, fold_more, folded_exactly}
-
-same_test : (a b : Bool) → (a ≡ true → b ≡ true) → (b ≡ true → a ≡ true) → a ≡ b
-same_test a b to back = grind arith
 
 -- a list that begins with r, and is kept in an array
 heads : (n : ℕ) (l : List ℕ) (r : ℕ) (L M : List ℕ) → stacked (suc n) l ≡ L → L ≡ r ∷ M → L ≡ r ∷ stacked n l
 heads n l r L M kept-so is = let e : ◌≡◌ {A = List ℕ} (get_or l n 0 ∷ stacked n l) (r ∷ M) = kept-so ∙ is in let h : get_or l n 0 ≡ r = cc in sym kept-so ∙ ap (λ (y : ℕ). y ∷ stacked n l) h
-
--- 64 sets of 64 tables
-abbrev pub Fits64 : List ℕ → Type 0
-Fits64 l = (length l ≡ 64) × ((x : ℕ) → get_or l x 0 < 2 ^ 64)
-
-pub way_fits : (s : Survey) (v : ℕ) (lows lows' : Lows) → lows' ≡ folded s lows v → Fits64 lows.touched → Fits64 lows'.touched
-way_fits s v lows lows' e fits =
-    let f = parent_of s v in
-    let long : length lows.touched ≡ 64 = fits.0 in
-    let low : f < 64 = s.small v in
-    subst (λ (z : Lows). Fits64 z.touched) (sym e) (
-      length-set lows.touched f (bit_or (get_or lows.touched f 0) (get_or lows.touched v 0)) ∙ long,
-      set_small (2 ^ 64) lows.touched f (bit_or (get_or lows.touched f 0) (get_or lows.touched v 0)) (omega arith) fits.1
-          (or_lt 64 (get_or lows.touched f 0) (get_or lows.touched v 0) (fits.1 f) (fits.1 v)),
-    )
 
 module _ (U : ℕ → Bool) (J : ℕ → ℕ → Bool) (r : ℕ) (s : Survey) (w : Whole U J r s) where
   abbrev seen : List ℕ
@@ -89,7 +70,8 @@ module _ (U : ℕ → Bool) (J : ℕ → ℕ → Bool) (r : ℕ) (s : Survey) (w
   no_root : has (stacked (count - 1) s.left.items) r ≡ false
   no_root = let once : Distinct (r ∷ stacked (count - 1) s.left.items) = subst Distinct rest (kept U J (parent_of s) r w.simple visit).once_left in once.0
 
-  module _ (k : ℕ) (low : k < length s.left.items - 1) (lows : Lows) (q : Folded J (parent_of s) seen r (stacked k s.left.items) lows.touched lows.cuts) where
+  module _ (rows : List ℕ) (k : ℕ) (low : k < length s.left.items - 1) (lows : Lows)
+      (q : Folded J (parent_of s) seen r (stacked k s.left.items) (touches rows lows) lows.cuts) where
     abbrev v : ℕ
     v = get_or s.left.items k 0
 
@@ -112,27 +94,38 @@ module _ (U : ℕ → Bool) (J : ℕ → ℕ → Bool) (r : ℕ) (s : Survey) (w
         count (suc k) s.left.items (omega arith)
         (subst (Ord U J (parent_of s) r seen gone w.simple w.root visit w.all) (sym all_left) (ord_all U J (parent_of s) r seen gone w.simple w.root visit w.all))
 
-    folds : lows.start ≡ r → Fits64 lows.touched → Folded J (parent_of s) seen r (stacked (suc k) s.left.items) (folded s lows v).touched (folded s lows v).cuts
-    folds from fits = subst (λ (b : ℕ). Folded J (parent_of s) seen r (stacked (suc k) s.left.items) (set lows.touched (parent_of s v) (bit_or (get_or lows.touched (parent_of s v) 0) (get_or lows.touched v 0)))
-        (cond (cond (eqb (parent_of s v) b) (not (eqb (number_in s.found v) 1)) (eqb (bit_and (get_or lows.touched v 0) (earlier_in s.found (parent_of s v))) 0)) (bit_or lows.cuts (one_bit (parent_of s v))) lows.cuts))
-        (sym from) (fold_more U J (parent_of s) r seen gone w.simple w.root visit w.all (stacked k s.left.items) v ordered left_seen not_start start_out
-        lows.touched lows.cuts q (earlier_in s.found (parent_of s v)) (number_in s.found v) (w.stands.numbers v)
-        (w.stands.earlier (parent_of s v)) (fits.1 v) (s.small v) fits.0)
+    folds : lows.start ≡ r → (lows' : Lows) → Folds rows s v lows lows'
+        → Folded J (parent_of s) seen r (stacked (suc k) s.left.items) (touches rows lows') lows'.cuts
+    folds from lows' d = fold_more U J (parent_of s) r seen gone w.simple w.root visit w.all (stacked k s.left.items) v ordered left_seen not_start start_out
+        (touches rows lows) lows.cuts q (earlier_in s.found (parent_of s v)) (number_in s.found v) (w.stands.numbers v) (w.stands.earlier (parent_of s v))
+        (touches rows lows') lows'.cuts d.touched
+        (λ x. d.cuts x ∙ ap (λ b. (eqb x (parent_of s v) && cuts_off_by s b v (touches rows lows v)) || bit lows.cuts x) from)
 
-    pub way_on : (v' : ℕ) → v' ≡ get_or s.left.items k 0 → (lows' : Lows) → lows' ≡ folded s lows v' → lows.start ≡ r → Fits64 lows.touched
-        → Folded J (parent_of s) seen r (stacked (k + 1) s.left.items) lows'.touched lows'.cuts
-    way_on v' same lows' e from fits =
+    pub way_on : (v' : ℕ) → v' ≡ get_or s.left.items k 0 → (lows' : Lows) → Folds rows s v' lows lows' → lows.start ≡ r
+        → Folded J (parent_of s) seen r (stacked (k + 1) s.left.items) (touches rows lows') lows'.cuts
+    way_on v' same lows' d from =
         let up : suc k ≡ k + 1 = omega arith in
-        let e' : lows' ≡ folded s lows v = e ∙ ap (folded s lows) same in
-        subst (λ j. Folded J (parent_of s) seen r (stacked j s.left.items) lows'.touched lows'.cuts) up
-        (subst (λ (z : Lows). Folded J (parent_of s) seen r (stacked (suc k) s.left.items) z.touched z.cuts) (sym e') (folds from fits))
+        subst (λ j. Folded J (parent_of s) seen r (stacked j s.left.items) (touches rows lows') lows'.cuts) up
+        (folds from lows' (subst (λ t. Folds rows s t lows lows') same d))
 
-  pub way_end : (k cuts : ℕ) (touched : List ℕ) → k ≡ length s.left.items - 1 → Folded J (parent_of s) seen r (stacked k s.left.items) touched cuts → (x : ℕ) → bit cuts x ≡ separates U J x
-  way_end k cuts touched e q x =
-      let q' : Folded J (parent_of s) seen r (stacked (count - 1) s.left.items) touched cuts = subst (λ j. Folded J (parent_of s) seen r (stacked j s.left.items) touched cuts) e q in
-      let a = folded_exactly U J (parent_of s) r seen gone w.simple w.root visit w.all (stacked (count - 1) s.left.items) touched cuts q' rest x in
+  pub way_end : (k cuts : ℕ) (T : ℕ → ℕ → Bool) → k ≡ length s.left.items - 1 → Folded J (parent_of s) seen r (stacked k s.left.items) T cuts → (x : ℕ) → bit cuts x ≡ separates U J x
+  way_end k cuts T e q x =
+      let q' : Folded J (parent_of s) seen r (stacked (count - 1) s.left.items) T cuts = subst (λ j. Folded J (parent_of s) seen r (stacked j s.left.items) T cuts) e q in
+      let a = folded_exactly U J (parent_of s) r seen gone w.simple w.root visit w.all (stacked (count - 1) s.left.items) T cuts q' rest x in
       let b = separates_exactly U J w.simple x in
       same_test (bit cuts x) (separates U J x) (λ h. b.1 (a.0 h)) (λ h. a.1 (b.0 h))
 
-pub way_start : (U : ℕ → Bool) (rows : List ℕ) (r : ℕ) (s : Survey) → Folded (row_joins rows) (parent_of s) (searched U (row_joins rows) r).seen r (stacked 0 s.left.items) rows 0
-way_start U rows r s = fold_start rows (parent_of s) (searched U (row_joins rows) r).seen r
+-- none gone through
+no_rows : (n x y : ℕ) → in_row (replicate n 0) x y ≡ false
+no_rows zero x y = zero_bit y
+no_rows (suc n) zero y = zero_bit y
+no_rows (suc n) (suc x) y = no_rows n x y
+
+module _ (lows : Lows) (none_below : lows.below ≡ replicate 64 0) (no_cuts : lows.cuts ≡ 0) where
+  alone : (a b : Bool) → b ≡ false → (a || b) ≡ a
+  alone a b h = grind (arith, nat_tests)
+
+  pub way_start : (U : ℕ → Bool) (rows : List ℕ) (r : ℕ) (s : Survey)
+      → Folded (in_row rows) (parent_of s) (searched U (in_row rows) r).seen r (stacked 0 s.left.items) (touches rows lows) lows.cuts
+  way_start U rows r s = fold_start (in_row rows) (parent_of s) (searched U (in_row rows) r).seen r (touches rows lows) lows.cuts
+      (λ x y. alone (in_row rows x y) (in_row lows.below x y) (ap (λ l. in_row l x y) none_below ∙ no_rows 64 x y)) no_cuts

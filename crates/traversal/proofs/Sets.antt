@@ -1,89 +1,67 @@
--- Sets of tables as bits of a number.
+-- How many tables are in sets, and sets without a common table.
 --
---   and_bits, or_bits   the bits of both, and of either
---   right_bit           a bit of both is one of the second
---   bit_small           a number of k digits has no bit from k on
---   candidate           the lowest of the bits of both
---   no_bits             a number without bits is 0
---   taken_fewer, set_most
---                       how many bits are set, where one is taken out, and at most
---   put_bit, take_bit, single_bit
---                       one bit put in, taken out or alone, as the code shifts it
-use Rattle.std.proofs.Common.{◌≡◌, ℕ, ◌+◌, ◌^◌, ◌<◌, ◌≤◌, min, max, Bool, true, false, not, ◌&&◌, ◌||◌, eqb, sym, ap, ◌∙◌, ⊎_elim, arith}
-use lib.Bits.{bit_and, bit_or, bit_xor}
-use lib.Count.{count_trailing_zeros}
-use Rattle.std.specs.Int.{bit_at}
-use Rattle.std.proofs.lemmas.Nat.{and_le_r, one_shl}
-use Rattle.std.proofs.lemmas.Nat.Bits.{bit_at-lt, bit_at_and, bit_at_or, bit_at_above, bit_at-pow_same, bit_at-pow_other}
-use Rattle.std.proofs.lemmas.Bool.{cases_lt, cases_eq, eq-eqb, ne_eqb, false≢true}
+--   taken_fewer, set_most    how many tables are in a set, where one is taken out, and at most
+--   apart_none, none_apart   no number passes two tests that are apart, and the other way round
+--   both_empty               a set of the tables that pass two tests is empty where these are apart
+use Rattle.std.proofs.Common.{◌≡◌, ℕ, zero, suc, ◌+◌, ◌^◌, ◌<◌, ◌≤◌, Bool, true, false, cond, not, ◌&&◌, eqb, sym, ap, ◌∙◌, refl, ⊎_elim, arith}
+use Rattle.std.specs.Cmp.{both_ways as same_test}
+use Rattle.std.proofs.lemmas.Bool.{cases_lt, cases_eq, eq-eqb, eqb-true}
 use Rattle.std.proofs.lemmas.Bool.Decides.{nat_tests}
-use Rattle.theory.specs.Graph.{Lowest, count}
+use Rattle.theory.specs.Graph.{count}
 use Rattle.theory.proofs.Sizes.{count_le, count_one}
-use Rattle.bits.specs.Rows.{bit}
-use Rattle.bits.proofs.Bit.{or_bit, xor_bit}
-use Rattle.bits.proofs.Lowest.{lowest_bit}
-use Rattle.traversal.specs.Sets.{one_bit, bits_set}
-
-pub and_bits : (x y k : ℕ) → bit (bit_and x y) k ≡ (bit x k && bit y k)
-and_bits x y k = ap (λ v. eqb v 1) (bit_at_and x y k) ∙ both (bit_at x k) (bit_at y k) (bit_at-lt x k) (bit_at-lt y k)
-  where
-    both : (d e : ℕ) → d < 2 → e < 2 → eqb (min d e) 1 ≡ (eqb d 1 && eqb e 1)
-    both d e h k = grind (arith, nat_tests)
-
-pub right_bit : (x y k : ℕ) → bit (bit_and x y) k ≡ true → bit y k ≡ true
-right_bit x y k h = right_true (bit x k) (bit y k) (sym (and_bits x y k) ∙ h)
-  where
-    right_true : (a b : Bool) → (a && b) ≡ true → b ≡ true
-    right_true a b h = grind (arith, nat_tests)
-
-pub or_bits : (x y k : ℕ) → bit (bit_or x y) k ≡ (bit x k || bit y k)
-or_bits x y k = ap (λ v. eqb v 1) (bit_at_or x y k) ∙ either (bit_at x k) (bit_at y k) (bit_at-lt x k) (bit_at-lt y k)
-  where
-    either : (d e : ℕ) → d < 2 → e < 2 → eqb (max d e) 1 ≡ (eqb d 1 || eqb e 1)
-    either d e h k = grind (arith, nat_tests)
-
-pub bit_small : (x k j : ℕ) → x < 2 ^ k → bit x j ≡ true → j < k
-bit_small x k j h t =
-    ⊎_elim (λ l. l)
-    (λ (l : k ≤ j). absurd (false≢true (sym (ap (λ v. eqb v 1) (bit_at_above x k j h l)) ∙ t)))
-    (cases_lt j k)
-
-pub candidate : (row free : ℕ) → free < 2 ^ 64 → (bit_and row free ≡ 0 → ⊥) → Lowest (bit (bit_and row free)) 0 (count_trailing_zeros 64 (bit_and row free))
-candidate row free h some = lowest_bit (bit_and row free) (omega (arith, and_le_r row free)) (omega arith)
-
-pub no_bits : (x : ℕ) → x < 2 ^ 64 → ((k : ℕ) → bit x k ≡ false) → x ≡ 0
-no_bits x h none = ⊎_elim
-    (λ (some : 0 < x). absurd (false≢true (sym (none (count_trailing_zeros 64 x)) ∙ (lowest_bit x h some).holds)))
-    (λ (nought : x ≤ 0). omega arith)
-    (cases_lt 0 x)
-
-pub put_bit : (x u : ℕ) → u < 64 → (k : ℕ) → bit (bit_or x (one_bit u)) k ≡ (eqb k u || bit x k)
-put_bit x u h k =
-    let flip : eqb u k ≡ eqb k u = grind (arith, nat_tests) in
-    ap (λ v. bit (bit_or x v) k) (one_shl u 64 h) ∙ or_bit x u k ∙ ap (λ c. c || bit x k) flip
-
-pub single_bit : (u : ℕ) → u < 64 → (k : ℕ) → bit (one_bit u) k ≡ eqb k u
-single_bit u h k = ap (λ v. bit v k) (one_shl u 64 h) ∙ ⊎_elim
-    (λ (e : k ≡ u). ap (λ i. bit (2 ^ u) i) e ∙ ap (λ v. eqb v 1) (bit_at-pow_same u) ∙ sym (eq-eqb k u e))
-    (λ (ne : k ≡ u → ⊥). ap (λ v. eqb v 1) (bit_at-pow_other u k ne) ∙ sym (ne_eqb k u ne))
-    (cases_eq k u)
-
-pub take_bit : (x u : ℕ) → u < 64 → bit x u ≡ true → (k : ℕ) → bit (bit_xor x (one_bit u)) k ≡ (not (eqb k u) && bit x k)
-take_bit x u h held k =
-    let flip : eqb u k ≡ eqb k u = grind (arith, nat_tests) in
-    ap (λ v. bit (bit_xor x v) k) (one_shl u 64 h) ∙ xor_bit x u held k ∙ ap (λ c. not c && bit x k) flip
+use Rattle.sets.specs.Set.{bit}
+use Rattle.sets.proofs.Bit.{zero_bit, none_above}
+use Rattle.sets.proofs.Lowest.{no_bits}
+use Rattle.traversal.specs.Sets.{bits_set, apart}
 
 fewer_below : (n x y u : ℕ) → u < n → bit x u ≡ true → ((k : ℕ) → bit y k ≡ (not (eqb k u) && bit x k)) → count (bit x) n ≡ count (bit y) n + 1
 fewer_below n x y u h held out = count_one (bit y) (bit x) u n h (out u ∙ (grind (arith, nat_tests))) held (λ k _ ne. out k ∙ (grind (arith, nat_tests)))
 
-one_fewer : (x y u : ℕ) → u < 64 → bit x u ≡ true → ((k : ℕ) → bit y k ≡ (not (eqb k u) && bit x k)) → bits_set x ≡ bits_set y + 1
+pub taken_fewer : (x y u : ℕ) → u < 64 → bit x u ≡ true → ((k : ℕ) → bit y k ≡ (not (eqb k u) && bit x k)) → bits_set x ≡ bits_set y + 1
 unfolding bits_set
-one_fewer x y u h held out = fewer_below 64 x y u h held out
-
--- one bit taken out, as the code does it
-pub taken_fewer : (x u : ℕ) → u < 64 → bit x u ≡ true → bits_set x ≡ bits_set (bit_xor x (one_bit u)) + 1
-taken_fewer x u h held = one_fewer x (bit_xor x (one_bit u)) u h held (take_bit x u h held)
+taken_fewer x y u h held out = fewer_below 64 x y u h held out
 
 pub set_most : (x : ℕ) → bits_set x ≤ 64
 unfolding bits_set
 set_most x = count_le (bit x) 64
+
+-- ---- sets without a common table
+
+none_counted : (p : ℕ → Bool) (n k : ℕ) → count p n ≡ 0 → k < n → p k ≡ false
+none_counted p zero k e l = absurd (omega arith)
+none_counted p (suc n) k e l = ⊎_elim
+    (λ (q : k ≡ n). ap p q ∙ off (p n) (count p n) e)
+    (λ (ne : k ≡ n → ⊥). none_counted p n k (omega arith) (omega arith))
+    (cases_eq k n)
+  where
+    off : (c : Bool) (m : ℕ) → m + cond c 1 0 ≡ 0 → c ≡ false
+    off c m h = grind (arith, nat_tests)
+
+counted_none : (p : ℕ → Bool) (n : ℕ) → ((k : ℕ) → p k ≡ false) → count p n ≡ 0
+counted_none p zero none = refl
+counted_none p (suc n) none =
+    let ih : count p n ≡ 0 = counted_none p n none in
+    let here : p n ≡ false = none n in
+    rw (ih, here) refl
+
+test_none : (p : ℕ → Bool) (n k : ℕ) → eqb (count p n) 0 ≡ true → k < n → p k ≡ false
+test_none p n k h l = none_counted p n k (eqb-true (count p n) 0 h) l
+
+none_test : (p : ℕ → Bool) (n : ℕ) → ((k : ℕ) → p k ≡ false) → eqb (count p n) 0 ≡ true
+none_test p n none = eq-eqb (count p n) 0 (counted_none p n none)
+
+pub apart_none : (p q : ℕ → Bool) (k : ℕ) → apart p q ≡ true → k < 64 → (p k && q k) ≡ false
+unfolding apart
+apart_none p q k h l = test_none (λ j. p j && q j) 64 k h l
+
+pub none_apart : (p q : ℕ → Bool) → ((k : ℕ) → (p k && q k) ≡ false) → apart p q ≡ true
+unfolding apart
+none_apart p q none = none_test (λ j. p j && q j) 64 none
+
+pub both_empty : (m : ℕ) (p q : ℕ → Bool) → m < 2 ^ 64 → ((k : ℕ) → bit m k ≡ (p k && q k)) → eqb m 0 ≡ apart p q
+both_empty m p q low both = same_test (eqb m 0) (apart p q)
+    (λ h. none_apart p q (λ k. sym (both k) ∙ ap (λ v. bit v k) (eqb-true m 0 h) ∙ zero_bit k))
+    (λ h. eq-eqb m 0 (no_bits m low (λ k. ⊎_elim
+    (λ (l : k < 64). both k ∙ apart_none p q k h l)
+    (λ (l : 64 ≤ k). none_above m k low l)
+    (cases_lt k 64))))

@@ -1,7 +1,8 @@
 -- Lists that grow at their end, and arrays that are written.
 --
---   more_small, take_small, set_small       each entry stays below a bound
+--   more_small, take_small                  each entry stays below a bound
 --   get_or_set                              an array after one write
+--   of_either                               a function of one of two values
 --   parent_set, number_set, earlier_set     discoveries after one write
 --   none_found                              discoveries at the start
 --   held_more                               a stack kept in slots after a record was put on top
@@ -47,16 +48,13 @@ get_or_set l u v x d h =
     (λ (ne : x ≡ u → ⊥). get_or-set_other l u x v d ne ∙ sym (cond-false (eqb x u) v (get_or l x d) (ne_eqb x u ne)))
     (cases_eq x u)
 
-of_either : {A B : Type 0} (f : A → B) (c : Bool) (a b : A) → f (cond c a b) ≡ cond c (f a) (f b)
+pub of_either : {A B : Type 0} (f : A → B) (c : Bool) (a b : A) → f (cond c a b) ≡ cond c (f a) (f b)
 of_either f true a b = refl
 of_either f false a b = refl
 
 pick_small : (n : ℕ) (c : Bool) (a b : ℕ) → a < n → b < n → cond c a b < n
 pick_small n true a b h k = h
 pick_small n false a b h k = k
-
-pub set_small : (n : ℕ) (l : List ℕ) (u v : ℕ) → u < length l → Small n l → v < n → Small n (set l u v)
-set_small n l u v h low k x = subst (λ y. y < n) (sym (get_or_set l u v x 0 h)) (pick_small n (eqb x u) v (get_or l x 0) k (low x))
 
 module _ (l : List Discovery) (u : ℕ) (d : Discovery) (x : ℕ) (h : u < length l) where
   pub parent_set : parent_in (set l u d) x ≡ cond (eqb x u) d.parent (parent_in l x)

@@ -2,20 +2,22 @@
 --
 --   whole_of                  no table to discover is left: the search discovered all
 --   surveyed                  what is told is the survey
---   simple_tables             the joins of a graph, on its tables
 --   may_survey, survey_of     a graph may be surveyed by all its tables, and that is its survey
 use Rattle.std.proofs.Common.{◌≡◌, ℕ, ◌<◌, Bool, true, false, not, ◌&&◌, ltb, List, sym, refl, ap, ◌∙◌, subst, arith}
 use mathlib.Core.Path.{fun_ext}
-use Rattle.std.proofs.lemmas.Bool.{ltb-true, lt-ltb}
+use Rattle.std.proofs.lemmas.Bool.{lt-ltb}
 use Rattle.std.proofs.lemmas.Bool.Decides.{nat_tests}
-use Rattle.theory.specs.Graph.{Graph, Simple, is_table, joined}
+use Rattle.theory.specs.Graph.{Simple, is_table}
 use Rattle.disassembly.specs.Search.{has, searched}
 use Rattle.disassembly.specs.Walks.{SimpleOn}
 use Rattle.disassembly.specs.Reach.{reached, separates}
-use Rattle.bits.specs.Rows.{bit, rows_graph}
-use Rattle.bits.proofs.Bit.{zero_bit}
+use Rattle.disassembly.proofs.Keys.{graph_on}
+use Rattle.sets.specs.Set.{bit}
+use Rattle.bits.specs.Rows.{rows_graph}
+use Rattle.sets.proofs.Bit.{zero_bit}
 use Rattle.traversal.specs.Discoveries.{parent_in, number_in, earlier_in}
-use Rattle.traversal.specs.Standing.{row_joins, Stands}
+use Rattle.sets.specs.Rows.{in_row}
+use Rattle.traversal.specs.Standing.{Stands}
 use Rattle.traversal.specs.Folding.{Whole}
 use Rattle.traversal.specs.Survey.{SurveysAmong, Surveys}
 use Rattle.traversal.specs.declared.survey.Survey.{Survey}
@@ -54,27 +56,19 @@ module _ (U : ℕ → Bool) (J : ℕ → ℕ → Bool) (r : ℕ) (s : Survey) (q
 
 -- ---- a whole graph
 
-pub simple_tables : (m : Graph) → Simple m → SimpleOn (is_table m) (joined m)
-simple_tables m s = record {
-  few = λ a h. let few = s.few in let low : a < m.tables = ltb-true a m.tables h in omega arith;
-  symmetric = s.symmetric;
-  loopless = s.loopless;
-  within = λ a b h. lt-ltb a m.tables (s.within a b h);
-}
-
 -- a survey by the mask of all tables, over a copy of the rows
 module _ (n : ℕ) (rows : List ℕ) (simple : Simple (rows_graph n rows)) (rows' : List ℕ) (same_rows : rows' ≡ rows) (tables : ℕ) (all : (x : ℕ) → bit tables x ≡ ltb x n) where
   as_tables : bit tables ≡ is_table (rows_graph n rows)
   as_tables = fun_ext all
 
-  pub may_survey : (r : ℕ) → r < n → (bit tables r ≡ true) × SimpleOn (bit tables) (row_joins rows')
+  pub may_survey : (r : ℕ) → r < n → (bit tables r ≡ true) × SimpleOn (bit tables) (in_row rows')
   may_survey r low = (
     all r ∙ lt-ltb r n low,
-    subst (λ (l : List ℕ). SimpleOn (bit tables) (row_joins l)) (sym same_rows) (subst (λ (U : ℕ → Bool). SimpleOn U (row_joins rows)) (sym as_tables) (simple_tables (rows_graph n rows) simple)),
+    subst (λ (l : List ℕ). SimpleOn (bit tables) (in_row l)) (sym same_rows) (subst (λ (U : ℕ → Bool). SimpleOn U (in_row rows)) (sym as_tables) (graph_on (rows_graph n rows) simple)),
   )
 
-  pub survey_of : (r k : ℕ) (t : Survey) → r ≡ k → SurveysAmong (bit tables) (row_joins rows') r t → Surveys (rows_graph n rows) k t
+  pub survey_of : (r k : ℕ) (t : Survey) → r ≡ k → SurveysAmong (bit tables) (in_row rows') r t → Surveys (rows_graph n rows) k t
   survey_of r k t e q =
-      let q₁ : SurveysAmong (bit tables) (row_joins rows) r t = subst (λ (l : List ℕ). SurveysAmong (bit tables) (row_joins l) r t) same_rows q in
-      let q₂ : SurveysAmong (is_table (rows_graph n rows)) (row_joins rows) r t = subst (λ (U : ℕ → Bool). SurveysAmong U (row_joins rows) r t) as_tables q₁ in
-      subst (λ j. SurveysAmong (is_table (rows_graph n rows)) (row_joins rows) j t) e q₂
+      let q₁ : SurveysAmong (bit tables) (in_row rows) r t = subst (λ (l : List ℕ). SurveysAmong (bit tables) (in_row l) r t) same_rows q in
+      let q₂ : SurveysAmong (is_table (rows_graph n rows)) (in_row rows) r t = subst (λ (U : ℕ → Bool). SurveysAmong U (in_row rows) r t) as_tables q₁ in
+      subst (λ j. SurveysAmong (is_table (rows_graph n rows)) (in_row rows) j t) e q₂

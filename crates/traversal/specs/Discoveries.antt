@@ -4,7 +4,7 @@
 --   discovery_of found x     what is kept of table x
 --   parent_in found x        the table that x was discovered from
 --   number_in found x        the discovery number of x
---   earlier_in found x       the tables discovered before x, as bits
+--   earlier_in found x       the set of the tables discovered before x
 use Rattle.std.specs.Prelude.{ℕ, List, slice_index_or}
 use Rattle.traversal.specs.declared.discovery.Discovery.{Discovery}
 

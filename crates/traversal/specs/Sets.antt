@@ -1,13 +1,13 @@
--- Sets of tables as bits of a number.
+-- Sets of tables.
 --
---   bits_set x   how many of the first 64 bits of x are set
---   one_bit u    bit u alone, as the code shifts it
-use Rattle.std.specs.Prelude.{ℕ, ◌*◌, ◌%◌, ◌^◌}
+--   bits_set x   how many tables are in the set x
+--   apart p q    no table below 64 passes both tests
+use Rattle.std.specs.Prelude.{ℕ, Bool, ◌&&◌, ◌==◌}
 use Rattle.theory.specs.Graph.{count}
-use Rattle.bits.specs.Rows.{bit}
+use Rattle.sets.specs.Set.{bit}
 
 unfoldable pub bits_set : ℕ → ℕ
 bits_set x = count (bit x) 64
 
-abbrev pub one_bit : ℕ → ℕ
-one_bit u = (1 * 2 ^ u) % 18446744073709551616
+unfoldable pub apart : (ℕ → Bool) → (ℕ → Bool) → Bool
+apart p q = count (λ k. p k && q k) 64 == 0

@@ -11,7 +11,7 @@ use Rattle.theory.specs.Graph.{Graph, is_table, joined}
 use Rattle.disassembly.specs.Search.{discovery, has, Place, searched}
 use Rattle.disassembly.specs.Reach.{reached, separates}
 use Rattle.disassembly.specs.Disassembly.{reversed}
-use Rattle.bits.specs.Rows.{bit}
+use Rattle.sets.specs.Set.{bit}
 use Rattle.traversal.specs.Discoveries.{parent_in, number_in, earlier_in}
 use Rattle.traversal.specs.Standing.{before}
 use Rattle.traversal.specs.declared.survey.Survey.{Survey}

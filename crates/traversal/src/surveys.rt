@@ -20,7 +20,7 @@ pub fn survey(graph: &BitTable, start: u32) -> Survey
     let mut walk = Walk::new(graph.all_tables(), start.min(last), &mut slots);
     walk.run(&rows);
     let Walk { mut survey, .. } = walk;
-    if survey.unreached != 0 {
+    if !survey.unreached.is_empty() {
         return survey;
     }
     survey.articulations = articulations(&rows, &survey);

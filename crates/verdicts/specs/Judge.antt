@@ -1,11 +1,10 @@
--- The judgement of a build request over sets of tables that are kept as bits.
+-- The judgement of a build request over sets of tables.
 --
 --   unless_named o f next                   a table that is named refuses by f; where there is none, what follows
 --   room_judged needed room                 9 where fewer records are lent than needed
---   lowest_in mask                          the lowest table of a set, or none
---   masks_judged n unreached cuts k room    6, 7, 8 and 9 in this order, or accepted
-use Rattle.std.specs.Prelude.{ℕ, cond, Some, None, Ok, Err, Option, Result, ◌==◌, nat_lt}
-use Rattle.std.specs.Int.Count.{count_trailing_zeros}
+--   sets_judged n unreached cuts k room     6, 7, 8 and 9 in this order, or accepted
+use Rattle.std.specs.Prelude.{ℕ, cond, Some, None, Ok, Err, Option, Result, nat_lt}
+use Rattle.sets.specs.Set.{lowest_in}
 use Rattle.refusals.specs.declared.build.BuildFault.{BuildFault}
 use Rattle.refusals.specs.declared.build.BuildFault.TheVariants.{TooSmall, Unreached, Articulation, TooFewRecords}
 
@@ -17,11 +16,8 @@ unless_named None f next = next
 abbrev pub room_judged : ℕ → ℕ → Result Unit BuildFault
 room_judged needed room = cond (nat_lt room needed) (Err (TooFewRecords needed)) (Ok tt)
 
-abbrev pub lowest_in : ℕ → Option ℕ
-lowest_in mask = cond (mask == 0) None (Some (count_trailing_zeros 64 mask))
-
-abbrev pub masks_judged : ℕ → ℕ → ℕ → ℕ → ℕ → Result Unit BuildFault
-masks_judged n unreached cuts needed room =
+abbrev pub sets_judged : ℕ → ℕ → ℕ → ℕ → ℕ → Result Unit BuildFault
+sets_judged n unreached cuts needed room =
     cond (nat_lt n 3) (Err TooSmall)
     (unless_named (lowest_in unreached) Unreached
     (unless_named (lowest_in cuts) Articulation

@@ -1,4 +1,4 @@
-//! What stands against a build request, judged over sets of tables that are kept as bits.
+//! What stands against a build request, judged over sets of tables.
 #![tactic(auto)]
 
 pub mod judge;

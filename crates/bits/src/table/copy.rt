@@ -2,13 +2,15 @@
 //! stays: the graph is the caller's, and its tables are asked for one by one, so both are arguments.
 ghost use Rattle.std.specs.Prelude.{◌≡◌, ℕ, ◌+◌, ◌<◌};
 ghost use Rattle.theory.specs.Graph.{table_count, is_table, size, no_joins, clamped};
-ghost use Rattle.bits.specs.Rows.{bit};
-ghost use Rattle.bits.specs.Table.{graph_of};
+ghost use Rattle.sets.specs.Set.{bit};
+ghost use Rattle.bits.specs.Table.{graph_of, rows_of};
 ghost use Rattle.bits.specs.Copy.{copied};
 
 use super::BitTable;
 use graph::graph::ReadableGraph;
 use graph::neighbours::neighbours_of;
+use sets::rows::Rows;
+use sets::set::TableSet;
 
 /// Puts in the joins of `v` with the tables above it.
 fn copy_row<G: ReadableGraph>(graph: &G, v: u32, copy: &mut BitTable)
@@ -27,7 +29,7 @@ impl BitTable {
     {
         BitTable {
             count: tables.clamp(1, 64),
-            rows: [0; 64],
+            rows: Rows::new(),
             joins: 0,
         }
     }
@@ -44,16 +46,16 @@ impl BitTable {
         copy
     }
 
-    /// All of its tables, as bits.
-    pub fn all_tables(&self) -> u64
+    /// All of its tables.
+    pub fn all_tables(&self) -> TableSet
         ensures { (x : ℕ) → bit result x ≡ is_table (graph_of self.now) x }
     {
-        u64::MAX >> (64 - self.count)
+        TableSet::below(self.count)
     }
 
-    /// The rows: bit `b` of row `a` is set where tables `a` and `b` are joined.
-    pub fn rows(&self) -> [u64; 64]
-        ensures { result ≡ self.now.rows }
+    /// The rows: in row `a` are the tables that table `a` is joined with.
+    pub fn rows(&self) -> Rows
+        ensures { result ≡ rows_of self.now }
     {
         self.rows
     }

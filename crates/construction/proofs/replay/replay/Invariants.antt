@@ -11,6 +11,6 @@ invariant-loop-i g l =
     let m = g.G.ReadableGraph.meaning in
     let n = g.G.EditableGraph.limit in
     (n l.graph ≡ n l.initial.graph)
-    × (steps_from (n l.initial.graph) 1 (under_way (m l.initial.graph) l.initial.used.flags) l.steps
-    ≡ steps_from (n l.initial.graph) (l.i + 1) (under_way (m l.graph) l.used.flags) (drop l.i l.steps))
-    × Going (under_way (m l.graph) l.used.flags)
+    × (steps_from (n l.initial.graph) 1 (under_way (m l.initial.graph) l.initial.used) l.steps
+    ≡ steps_from (n l.initial.graph) (l.i + 1) (under_way (m l.graph) l.used) (drop l.i l.steps))
+    × Going (under_way (m l.graph) l.used)

@@ -1,4 +1,4 @@
-use Rattle.std.proofs.Common.{◌≤◌, min, length, take, Ok, Err, Result, refl, ap, ◌∙◌, arith}
+use Rattle.std.proofs.Common.{◌≤◌, length, Ok, Err, Result, refl, ap, ◌∙◌, arith}
 use Rattle.bits.proofs.Edits.{simple_of}
 use Rattle.writer.specs.Laid.{laid}
 use Rattle.texts.specs.ListRead.{list_read}
@@ -16,7 +16,7 @@ returns-in-Ok c =
     let steps = c.args.steps.now in
     let b = c.in-Ok.graph in
     let told : Result Graph ProgramFault = Ok (graph_of b) in
-    let part = ap (λ n. take n text) (c.min-len.ensures ∙ ap (λ n. min n 36465) c.min.ensures) in
+    let part = c.part_read.ensures.part in
     done_built text c.args.len steps c.lay_graph.result c.lay_graph.new.text c.build.new.steps told
     (c.in-Ok.ensures.answer ∙ ap (λ p. replay_told p steps) part) (c.build.ensures.filled ∙ ap (λ p. (list_read p 0 steps).records) part)
     c.lay_graph.ensures.count c.lay_graph.ensures.laid (graph_of b) refl (simple_of b)
@@ -27,7 +27,7 @@ returns-in-Err c =
     let steps = c.args.steps.now in
     let f = c.in-Err.fault in
     let told : Result Graph ProgramFault = Err f in
-    let part = ap (λ n. take n text) (c.min-len.ensures ∙ ap (λ n. min n 36465) c.min.ensures) in
+    let part = c.part_read.ensures.part in
     let records : 2013 ≤ length steps = omega arith in
     let near = refusal_near f (length text) c.in-Err.ensures.near in
     done_refused text c.args.len steps c.lay_refusal.result c.lay_refusal.new.text c.build.new.steps told

@@ -29,9 +29,9 @@ module _ (n : ℕ) (t : Triangle) (l : List Step) (out one two three : List ℕ)
 
 pub returns : goal.returns
 returns c =
-    let n = c.args.tables in
-    let t = c.args.triangle in
-    let l = c.args.steps.now in
+    let n = c.args.list.tables in
+    let t = c.args.list.triangle in
+    let l = c.args.list.steps.now in
     let out = c.args.out.now in
     let room : list_length l ≤ length out = omega arith in
     let answer : Ok (list_length l) ≡ list_write_answer n t l (length out) = search rules in

@@ -1,27 +1,26 @@
 -- Each turn hands on what one more table touches.
 use Rattle.std.proofs.Common.{◌≡◌, ℕ, ◌-◌, ◌<◌, List, length, get_or, take, ap, ◌∙◌, subst, sym, arith}
 use Rattle.std.proofs.lemmas.List.{get_or-take, length-take-le}
-use Rattle.traversal.specs.Standing.{row_joins}
-use Rattle.traversal.specs.declared.lows.Lows.{Lows}
+use Rattle.sets.specs.Rows.{in_row}
+use Rattle.traversal.specs.Folding.{touches}
 use Rattle.traversal.proofs.Stacks.{take_small}
-use Rattle.traversal.proofs.Finished.{some_left, start_last, way_start, way_fits, way_on, way_end}
+use Rattle.traversal.proofs.Finished.{some_left, start_last, way_start, way_on, way_end}
 use Rattle.traversal.proofs.articulations.articulations.Goals as goal
 
 pub overflow_sub-last : goal.overflow_sub-last
 overflow_sub-last c =
     let long : length c.as_slice-left.result.now ≡ length c.args.survey.now.left.items = ap length c.as_slice-left.ensures.value in
-    omega (arith, some_left c.requires.0 (row_joins c.args.rows.now) c.requires.1 c.args.survey.now c.requires.2)
+    omega (arith, some_left c.requires.0 (in_row c.args.rows.now) c.requires.1 c.args.survey.now c.requires.2)
 
 pub bounds-left-last : goal.bounds-left-last
 bounds-left-last c =
     let long : length c.as_slice-left.result.now ≡ length c.args.survey.now.left.items = ap length c.as_slice-left.ensures.value in
-    omega (arith, some_left c.requires.0 (row_joins c.args.rows.now) c.requires.1 c.args.survey.now c.requires.2)
+    omega (arith, some_left c.requires.0 (in_row c.args.rows.now) c.requires.1 c.args.survey.now c.requires.2)
 
 pub loop-v-init : goal.loop-v-init
 loop-v-init c = record {
-  fits = (c.told-rows, c.fits-rows);
-  start = ap (λ (l : List ℕ). get_or l (length l - 1) 0) c.as_slice-left.ensures.value;
-  folds = λ U r w. way_start U c.args.rows.now r c.args.survey.now;
+  start = c.new-lows.ensures.start ∙ ap (λ (l : List ℕ). get_or l (length l - 1) 0) c.as_slice-left.ensures.value;
+  folds = λ U r w. way_start c.new-lows.result c.new-lows.ensures.below c.new-lows.ensures.cuts U c.args.rows.now r c.args.survey.now;
 }
 
 pub fold-requires : goal.fold-requires
@@ -42,10 +41,9 @@ loop-v-preserved c =
     let low : i < length s.left.items - 1 = omega (arith, c.loop-v-test.true) in
     let here : v ≡ get_or s.left.items i 0 = get_or-take (length left - 1) left i 0 (omega arith) ∙ ap (λ (l : List ℕ). get_or l i 0) c.as_slice-left.ensures.value in
     record {
-      fits = way_fits s v c.loop-v.lows c.fold.new.self c.fold.ensures q.fits;
-      start = ap (λ (w : Lows). w.start) c.fold.ensures ∙ q.start;
-      folds = λ U r w. way_on U (row_joins c.args.rows.now) r s w i low c.loop-v.lows (q.folds U r w) v here c.fold.new.self c.fold.ensures
-          (q.start ∙ start_last U (row_joins c.args.rows.now) r s w) q.fits;
+      start = c.fold.ensures.start ∙ q.start;
+      folds = λ U r w. way_on U (in_row c.args.rows.now) r s w c.args.rows.now i low c.loop-v.lows (q.folds U r w) v here c.fold.new.self c.fold.ensures
+          (q.start ∙ start_last U (in_row c.args.rows.now) r s w);
     }
 
 pub returns : goal.returns
@@ -55,4 +53,4 @@ returns c = λ U r w.
     let long : length left ≡ length s.left.items = ap length c.as_slice-left.ensures.value in
     let most : length (take (length left - 1) left) ≡ length left - 1 = length-take-le (length left - 1) left (omega arith) in
     let end : c.loop-v.v-index ≡ length s.left.items - 1 = omega (arith, c.loop-v-test.false, c.loop-v.auto.v-index-end) in
-    way_end U (row_joins c.args.rows.now) r s w c.loop-v.v-index c.loop-v.lows.cuts c.loop-v.lows.touched end (c.loop-v.invariant.folds U r w)
+    way_end U (in_row c.args.rows.now) r s w c.loop-v.v-index c.loop-v.lows.cuts (touches c.args.rows.now c.loop-v.lows) end (c.loop-v.invariant.folds U r w)

@@ -1,17 +1,15 @@
 -- The first tables in the order of leaving have been gone through.
 use Rattle.std.proofs.Common.{◌≡◌, ℕ, ◌-◌, Bool, length, get_or}
 use Rattle.disassembly.specs.Search.{searched}
-use Rattle.traversal.specs.Standing.{row_joins}
-use Rattle.traversal.specs.Folding.{parent_of, Whole}
+use Rattle.sets.specs.Rows.{in_row}
+use Rattle.traversal.specs.Folding.{parent_of, touches, Whole}
 use Rattle.traversal.proofs.Stacks.{stacked}
 use Rattle.traversal.proofs.Cuts.{Folded}
-use Rattle.traversal.proofs.Finished.{Fits64}
 use Rattle.traversal.proofs.articulations.articulations.Given as goal
 
 abbrev pub invariant-loop-v : goal.invariant-loop-v
 invariant-loop-v l = record {
-  fits : Fits64 l.lows.touched;
   start : l.lows.start ≡ get_or l.survey.left.items (length l.survey.left.items - 1) 0;
-  folds : (U : ℕ → Bool) (r : ℕ) → Whole U (row_joins l.rows) r l.survey
-      → Folded (row_joins l.rows) (parent_of l.survey) (searched U (row_joins l.rows) r).seen r (stacked l.v-index l.survey.left.items) l.lows.touched l.lows.cuts;
+  folds : (U : ℕ → Bool) (r : ℕ) → Whole U (in_row l.rows) r l.survey
+      → Folded (in_row l.rows) (parent_of l.survey) (searched U (in_row l.rows) r).seen r (stacked l.v-index l.survey.left.items) (touches l.rows l.lows) l.lows.cuts;
 }

@@ -1,13 +1,13 @@
 use Rattle.std.proofs.Common.{◌≡◌, ◌+◌, ◌++◌, length, take, drop, sym, ap, ap₂, ◌∙◌, arith, rules}
-use borrow.Rule.Slice.PartMut.{post_of, Post-is}
+use borrow.Rule.Slice.PartMut.{Post-is}
 use Rattle.lines.specs.Text.{optional_text}
 use Rattle.lines.proofs.Bytes.{optional_length}
 use Rattle.writer.proofs.Lays.{laid_parts}
 use Rattle.writer.proofs.line.put_column.Goals as goal
 
 -- the bytes before the column, the column, and the bytes after it
-pub returns : goal.returns
-returns c =
+pub returns-in-None : goal.returns-in-None
+returns-in-None c =
     let out = c.args.out.now in
     let at = c.args.at in
     let text = optional_text c.args.content in

@@ -1,4 +1,4 @@
-use Rattle.std.proofs.Common.{◌≤◌, length, sym, arith}
+use Rattle.std.proofs.Common.{sym, arith}
 use Rattle.theory.specs.Graph.{unjoining}
 use Rattle.theory.proofs.Sizes.{unjoining_simple, unjoining_size}
 use Rattle.bits.specs.Rows.{rows_graph}
@@ -19,11 +19,9 @@ invariant_of-self c =
     let t = c.args.self.now in
     let m = rows_graph t.count t.rows in
     let two = c.judge_pair.ensures.two c.in_ok-judge_pair.was in
-    let held = sym c.if-not-joined.ensures in
-    let long : 64 ≤ length t.rows = omega arith in
-    let fewer = unjoining_size m c.args.a c.args.b two.0 two.1.0 two.1.1 (simple_of t) held in
+    let fewer = unjoining_size m c.args.a c.args.b two.0 two.1.0 two.1.1 (simple_of t) (sym c.if-not-joined.ensures) in
     let o = owed t.count _ _ (unjoining m c.args.a c.args.b)
-    (unjoin_means t.count t.rows c.args.a c.args.b (simple_of t) long two.0 two.1.0 two.1.1 held)
+    (unjoin_means t.count t.rows _ c.args.a c.args.b (simple_of t) two.0 two.1.0 c.unjoin.ensures)
     (unjoining_simple m c.args.a c.args.b (simple_of t))
     (omega (arith, t.counted)) in
     record { some = o.some; few = o.few; symmetric = o.symmetric; loopless = o.loopless; within = o.within; counted = o.counted; fits = o.fits }
@@ -32,5 +30,4 @@ pub returns-clause-meant : goal.returns-clause-meant
 returns-clause-meant c =
     let t = c.args.self.now in
     let two = c.judge_pair.ensures.two c.in_ok-judge_pair.was in
-    let long : 64 ≤ length t.rows = omega arith in
-    unjoin_means t.count t.rows c.args.a c.args.b (simple_of t) long two.0 two.1.0 two.1.1 (sym c.if-not-joined.ensures)
+    unjoin_means t.count t.rows _ c.args.a c.args.b (simple_of t) two.0 two.1.0 c.unjoin.ensures

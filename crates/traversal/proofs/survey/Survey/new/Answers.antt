@@ -1,15 +1,11 @@
 -- Nothing is kept of any table.
 use Rattle.std.proofs.Common.{◌<◌, subst, sym, arith}
 use Rattle.traversal.specs.declared.discovery.Discovery.{Discovery}
-use Rattle.traversal.proofs.Sets.{bit_small}
 use Rattle.traversal.proofs.Stacks.{none_found}
 use Rattle.traversal.proofs.survey.Survey.new.Goals as goal
 
-pub overflow_shl-result : goal.overflow_shl-result
-overflow_shl-result c = bit_small c.args.tables 64 c.args.start (omega arith) c.requires
-
 pub invariant_of-result : goal.invariant_of-result
 invariant_of-result c = record {
-  small = λ x. subst (λ (d : Discovery). d.parent < 64) (sym (none_found 64 x)) (omega arith);
+  small = rw c.none_found.ensures (λ x. subst (λ (d : Discovery). d.parent < 64) (sym (none_found 64 x)) (omega arith));
   low = rw c.new.ensures (λ _. omega arith);
 }
