@@ -61,7 +61,8 @@ fn lay_list(list: BuildList, text: &mut [u8]) -> usize
 
 /// Takes the first `len` bytes of the text as what was read, and lays what is to be printed over the text's first bytes; the
 /// answer is how many these are.
-// stays: the text and a length apart, what is printed lies over the same memory, past what was read, too
+// stays: what is printed lies over the same memory, also past what was read, so text and length are two; the match is on whether a
+// list was given
 pub fn assemble_text(
     text: &mut [u8],
     len: usize,
@@ -87,7 +88,7 @@ pub fn assemble_text(
 }
 
 /// The same in a page, where all of the input fits into it; none, and nothing changed, where more may follow.
-// stays: apart from `replay_page`: a function over both would take the limit and the program, and is longer than the two
+// stays: apart from `replay_page`: a function over both would take the limit and the program, and be longer than the two
 pub fn assemble_page(
     page: &mut [u8; PAGE],
     len: usize,

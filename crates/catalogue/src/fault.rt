@@ -24,7 +24,7 @@ impl RowFault {
     }
 
     /// The table, and the stored number, or 0 where it is not at fault.
-    // stays: callers are promised two numbers; who wants to know which of them a case names matches the case
+    // stays: with an `Option` for the second number each caller would take apart what the cases tell already
     pub fn values(self) -> [i64; 2]
         ensures { result ≡ row_values self }
     {

@@ -4,6 +4,7 @@
 --   kept, cut, over   what a field's reading amounts to after one more place, where that place is refused, and after the last
 --   low, more         how large a number of k digits is
 --   numbers, counts, blanks                  the readings of the three kinds of field
+--   marks_split                              the ten places of a row count are its first five and then its last five
 --   last_kept, last_cut                      the last two places of a number
 --   short_number, blank_count, blank_field   a field whose first three, or all five, places are blank
 use Rattle.std.proofs.Common.{◌≡◌, ℕ, suc, ◌+◌, ◌-◌, ◌*◌, ◌^◌, ◌<◌, ◌≤◌, Bool, true, false, cond, not, ◌&&◌, ◌||◌, eqb, List, ℤ, Ok, Err, Result, sym, refl, ap, ◌∙◌, arith}
@@ -13,7 +14,7 @@ use Rattle.std.proofs.lemmas.Bool.Decides.{nat_tests}
 use Rattle.lines.specs.declared.line.BadByte.{BadByte}
 use Rattle.lines.specs.Read.{bad, then, byte, is_digit, digit_may, blank_may, number_from, number_at, count_from, count_at, blank_from, unused_at}
 use Rattle.lines.proofs.Steps.{number_blank, count_blank, blank_more, blank_done}
-use Rattle.columns.specs.Place.{place_at, mark_at, blank_at, Blank}
+use Rattle.columns.specs.Place.{place_at, mark_at, marks_left, blank_at, Blank}
 
 -- a field's reading from the place i on, where k more places are to come and s is what those before tell
 pub record Reading (S X : Type 0) : Type 0 where
@@ -59,6 +60,15 @@ way : {X Y : Type 0} (f : X → Result Y BadByte) (d : Bool) (x : X) (r : Result
 way f true x r q e = refl
 way f false x r q e = e
 
+then_on : {X Y Z : Type 0} (r : Result X BadByte) (f : X → Result Y BadByte) (g : Y → Result Z BadByte)
+    → then (then r f) g ≡ then r (λ x. then (f x) g)
+then_on (Ok x) f g = refl
+then_on (Err b) f g = refl
+
+then_same : {X Y : Type 0} (r : Result X BadByte) (f g : X → Result Y BadByte) → ((x : X) → f x ≡ g x) → then r f ≡ then r g
+then_same (Ok x) f g h = h x
+then_same (Err b) f g h = refl
+
 module _ (text : List ℕ) where
   pub number_step : (i j k v : ℕ) → j ≡ i + 1
       → number_from text i (suc k) v ≡ then (place_at text i k v) (λ w. number_from text j k w)
@@ -100,6 +110,27 @@ module _ (text : List ℕ) where
 
   abbrev pub counts : Reading (Bool × ℕ) ℤ
   counts = record { from = count_on; one = mark_at text; step = count_step }
+
+  -- one place, and then places that are known to be split off the rest
+  count_more : (i j k : ℕ) (s : Bool × ℕ) (rest : Bool × ℕ → Result ℤ BadByte) (front : Bool × ℕ → Result (Bool × ℕ) BadByte) → j ≡ i + 1
+      → ((w : Bool × ℕ) → then (front w) rest ≡ count_on j k w) → then (then (mark_at text i k s) front) rest ≡ count_on i (suc k) s
+  count_more i j k s rest front e split =
+      then_on (mark_at text i k s) front rest
+      ∙ then_same (mark_at text i k s) (λ w. then (front w) rest) (λ w. count_on j k w) split
+      ∙ sym (count_step i j k s e)
+
+  -- the first five places of the row count at i
+  abbrev pub first_marks : ℕ → Result (Bool × ℕ) BadByte
+  first_marks i = then (mark_at text i 9 (false, 0)) (λ a. then (mark_at text (i + 1) 8 a) (λ b. then (mark_at text (i + 2) 7 b)
+      (λ c. then (mark_at text (i + 3) 6 c) (λ d. mark_at text (i + 4) 5 d))))
+
+  pub marks_split : (i : ℕ) → then (first_marks i) (marks_left text i) ≡ count_at text i
+  marks_split i =
+      count_more i (i + 1) 9 (false, 0) (marks_left text i) _ refl (λ a.
+      count_more (i + 1) (i + 2) 8 a (marks_left text i) _ (omega arith) (λ b.
+      count_more (i + 2) (i + 3) 7 b (marks_left text i) _ (omega arith) (λ c.
+      count_more (i + 3) (i + 4) 6 c (marks_left text i) _ (omega arith) (λ d.
+      sym (count_step (i + 4) (i + 5) 5 d (omega arith))))))
 
   pub blank_step : (i j k : ℕ) (u : Unit {0}) → j ≡ i + 1
       → blank_from text i (suc k) ≡ then (blank_at text i) (λ _. blank_from text j k)

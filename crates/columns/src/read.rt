@@ -347,7 +347,7 @@ impl<'a> Start<'a> {
 
 /// The line that begins at `at`, or the first byte that no line begun so can have: the place of the text's end where the line
 /// is cut off.
-// stays: callers have any text and any place; the types within have those that lie in it
+// stays: callers have any text and any place; a `Start` is made only where the place lies in the text
 pub fn read_line(text: &[u8], at: usize) -> Result<Line, BadByte>
     // line by line as the definition reads
     ensures answer { result ≡ line_at text.now at }

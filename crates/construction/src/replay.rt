@@ -2,8 +2,7 @@
 //! tables are in use. The tables in use are kept as a set; the joins are kept by the graph alone.
 //!
 //! The inner functions are small, one for each thing that is judged or done. Those that change something say in `answer`
-//! what they answer, in `meant` what they leave (a refusal changes nothing), and in `same` that the capacity stays. `same`
-//! stands in each of them.
+//! what they answer, in `meant` what they leave (a refusal changes nothing), and in `same` that the capacity stays.
 //! stays: a caller knows of a graph that it lent no more than the contract of the call says, so each says `same`. The graph and
 //! the tables in use are two parameters: of a struct with the graph in a field each method would owe, besides, that it lends
 //! the same graph on. Where they are only read, they and the tables of a step are parameters of their own: a struct of them

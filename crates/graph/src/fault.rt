@@ -33,7 +33,7 @@ impl StoreFault {
     }
 
     /// The tables or the amount that it names, and 0 where it names one alone.
-    // stays: callers are promised two numbers; who wants to know which of them a case names matches the case
+    // stays: with an `Option` for the second number each caller would take apart what the cases tell already
     pub fn values(self) -> [u32; 2]
         ensures { result ≡ store_values self }
     {

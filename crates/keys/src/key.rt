@@ -1,5 +1,5 @@
 //! The keys of two graphs compared: their build lists.
-//! stays: the numbers are those of the X lines. An enum whose cases carry values gives none by `as`, so a match does.
+//! stays: number and value are those of the build request's refusal, handed on.
 ghost use Rattle.std.specs.Prelude.{◌≡◌, ◌≤◌, true, ◌↔◌, length, take};
 ghost use Rattle.assembly.specs.Build.{build_judged, records_after};
 ghost use Rattle.keys.specs.Key.{key_number, key_value, key_graph, Compared, second_after, OneKey};
@@ -29,7 +29,7 @@ impl KeyFault {
     }
 
     /// The table or the amount that it names, and 0 where it names none.
-    // stays: an X line has a place in any case, and 0 is the one of a refusal that names none
+    // stays: it is the value of the refusal within, and 0 where that names none
     pub fn value(self) -> usize
         ensures { result ≡ key_value self }
     {

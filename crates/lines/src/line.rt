@@ -50,7 +50,7 @@ pub enum Fields {
 }
 
 /// A line: its letter, and what its fields hold.
-// stays: eleven letters have five layouts. An enum of a case a letter would say five times how three numbers are read, written and
+// stays: eleven letters have five layouts. An enum with a case for each letter would say five times how three numbers are read, written and
 // proved (H, T, N, D, X), and three times how two are; here each layout is said once
 #[derive(Clone, Copy, PartialEq, Eq, Debug)]
 pub struct Line {

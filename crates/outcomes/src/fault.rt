@@ -1,6 +1,6 @@
 //! Why a program prints a refusal: its number, its layer and its place.
-//! stays: each enum of refusals has `number`, `place` and the like as methods of its own; nothing is generic over a refusal, so no
-//! trait has them.
+//! stays: each enum of refusals has `number`, `place` and the like as methods of its own; nothing that is generic over a
+//! refusal asks it for them, so no trait has them.
 ghost use Rattle.std.specs.Prelude.{◌≡◌};
 ghost use Rattle.graph.specs.Layer.{layer_number};
 ghost use Rattle.outcomes.specs.Fault.{fault_number, fault_layer, fault_place};

@@ -58,7 +58,7 @@ pub fn write_graph<G: ReadableGraph>(graph: &G, out: &mut [u8]) -> Result<usize,
         return Err(TextFault::TooFew { needed });
     }
     put_line(out, 0, b'G', [Some(tables), Some(joins as u32), None]);
-    // stays: how many lines a row has is known only when it is written, so each row takes its place from the one before
+    // stays: the rows were counted for their sum alone, so each takes its place from the one before
     let mut at = 17;
     for v in 0..tables {
         at = put_row(graph, out, at, v);

@@ -61,8 +61,8 @@ fn lay_graph(graph: &BitTable, text: &mut [u8]) -> usize
 
 /// Takes the first `len` bytes of the text as what was read, and lays what is to be printed over the text's first bytes; the
 /// answer is how many these are.
-// stays: the text and a length apart, what is printed lies over the same memory, past what was read, too; and a match on whether
-// a list was read and played back
+// stays: what is printed lies over the same memory, also past what was read, so text and length are two; the match is on whether a
+// list was read and played back
 pub fn replay_text(text: &mut [u8], len: usize, steps: &mut [Step; 2013]) -> usize
     // the bytes printed, every byte of the text, and every step record, for whatever was read; in other words: a graph is
     // printed exactly where the text read is that of a legal build, and then the graph that it builds
@@ -75,7 +75,7 @@ pub fn replay_text(text: &mut [u8], len: usize, steps: &mut [Step; 2013]) -> usi
 }
 
 /// The same in a page, where what was read and what is printed fit into it; none, and nothing changed, where they may not.
-// stays: apart from `assemble_page`: a function over both would take the limit and the program, and is longer than the two
+// stays: apart from `assemble_page`: a function over both would take the limit and the program, and be longer than the two
 pub fn replay_page(page: &mut [u8; PAGE], len: usize, steps: &mut [Step; 2013]) -> Option<usize>
     ensures { Paged page.old len steps.old result page.new steps.new }
 {

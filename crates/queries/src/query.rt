@@ -45,7 +45,7 @@ pub struct QueryHead {
 
 /// The G line, judged in the order 15, 16, 17, 9.
 // stays: here and below what differs is the pattern: a reader that took it as a closure would need the same match, an `Option` around
-// it, and a contract by the closure's. That the reader has passed a line, only its own clause says to a caller
+// it, and a contract in terms of the closure's. That the reader has passed a line, only its own clause says to a caller
 fn head_line(reader: &mut Reader, room: usize) -> Result<Head, TextFault>
     ensures answer { result ≡ head_at reader.old.text.now reader.old.at room }
     ensures within { IfOk result (λ h. (1 ≤ h.tables) × (h.tables ≤ 64) × (h.tables ≤ room + 1)) }

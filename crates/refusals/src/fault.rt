@@ -41,7 +41,7 @@ impl ReplayFault {
     }
 
     /// The step that it names: the first is 1, and 0 is the triangle, or none.
-    // stays: an X line has a place in any case, and 0 is the one of a refusal that names none
+    // stays: 0 is the triangle's own number, before the first step; whether a refusal has a step its case tells
     pub fn step(self) -> usize
         ensures { result ≡ replay_step self }
     {
@@ -53,7 +53,7 @@ impl ReplayFault {
     }
 
     /// What a store's refusal names, or the table, and 0 where there is no more.
-    // stays: callers are promised two numbers; who wants to know which of them a case names matches the case
+    // stays: with an `Option` for the second number each caller would take apart what the cases tell already
     pub fn values(self) -> [u32; 2]
         ensures { result ≡ replay_values self }
     {

@@ -15,16 +15,16 @@ use theory::step::Step;
 fn replay_long<R: Read, W: Write>(
     input: &mut R,
     output: &mut W,
-    page: &[u8; PAGE],
-    len: usize,
+    read: &[u8],
     steps: &mut [Step; 2013],
 ) -> io::Result<()> {
     let mut text = [0u8; TEXT];
-    take_over(&mut text, page);
-    let mut len = len;
-    if len == PAGE {
-        len = read_rest(input, &mut text, PAGE)?;
-    }
+    take_over(&mut text, read);
+    let len = if read.len() == PAGE {
+        read_rest(input, &mut text, PAGE)?
+    } else {
+        read.len()
+    };
     let n = replay_text(&mut text, len, steps);
     output.write_all(&text[..n])
 }
@@ -39,6 +39,6 @@ fn main(rt: HostRuntime) -> io::Result<()> {
     let len = read_whole(&mut input, &mut page)?;
     match replay_page(&mut page, len, &mut steps) {
         Some(n) => output.write_all(&page[..n]),
-        None => replay_long(&mut input, &mut output, &page, len, &mut steps),
+        None => replay_long(&mut input, &mut output, &page[..len], &mut steps),
     }
 }

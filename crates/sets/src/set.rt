@@ -1,6 +1,6 @@
 //! A set of tables, kept as the bits of one word. A set is a plain value: what changes one gives the changed one. Numbers of any size
 //! may be asked for, put in or taken out: those not below 64 are in no set.
-//! stays: shifts and masks stand in this file and in no other. `checked_shl` and `checked_shr` make the same tests of the bound, and
+//! stays: sets of tables are shifted and masked in this file and in no other. `checked_shl` and `checked_shr` make the same tests of the bound, and
 //! give an `Option` to unwrap; `first` is no `first_from(0)`, since its clause `is` tells the number that requests are judged by.
 ghost use Rattle.std.specs.Prelude.{◌≡◌, ℕ, ◌<◌, ◌||◌, ◌&&◌, not, ◌==◌, nat_lt, IfSome};
 ghost use Rattle.std.specs.Iterator.{YieldsFirst};

@@ -19,7 +19,7 @@ pub struct Head {
 }
 
 /// A build list: the number of tables, the triangle, and the steps after it.
-// stays: the steps themselves; what fills records that are lent can only tell how many of them are steps
+// stays: it has the steps themselves; `Heading` has how many of the lent records are steps
 #[derive(Clone, Copy)]
 pub struct BuildList<'a> {
     pub tables: u32,
@@ -39,7 +39,7 @@ pub struct Heading {
 impl Reader<'_> {
     /// The H line, judged in the order 15, 16, 17, 9.
     // stays: here and below what differs is the pattern: a reader that took it as a closure would need the same match, an `Option` around
-    // it, and a contract by the closure's. That the reader has passed a line, only its own clause says to a caller
+    // it, and a contract in terms of the closure's. That the reader has passed a line, only its own clause says to a caller
     fn head(&mut self, room: usize) -> Result<Head, TextFault>
         ensures answer { result ≡ head_at self.old.text.now self.old.at room }
         ensures room { IfOk result (λ h. h.steps ≤ room) }
