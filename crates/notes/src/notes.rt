@@ -74,7 +74,7 @@ fn node(u: u32, v: u32, w: u32) -> Step
     }
 }
 
-/// Lays one more note; where there is no room, it is left out.
+/// Lays one more note, where there is room for it.
 fn lay(note: Step, notes: &mut Stack<Step>)
     ensures { Lays notes.old notes.new (note ∷ []) }
 {
