@@ -1,6 +1,6 @@
 #!/usr/bin/env python3
 """A model of the programs, written from the documents alone and sharing nothing with the proved code.
-Usage: model.py assemble|replay < input"""
+Usage: model.py assemble|replay|drive < input"""
 import sys
 LET={'H':'nnn','T':'nnn','N':'nnn','E':'unn','G':'nnu','J':'unn','M':'unn','R':'nc','D':'nnn','P':'ouu','X':'nnn'}
 class Fault(Exception):
@@ -173,5 +173,65 @@ def replay(text):
         for a,b in sorted(J): o+='J     %5d%5d\n'%(a,b)
         return o.encode()
     except Fault as f: return X(f)
+def fill(n,J,marks):
+    """The joins that the marks name, where they make a spanning tree."""
+    if len(marks)!=n-1: raise Fault(18,4,0)
+    T=set()
+    for k,(v,w) in enumerate(marks):
+        if v>=n or w>=n: raise Fault(1,4,k)
+        if v==w: raise Fault(2,4,k)
+        p=(min(v,w),max(v,w))
+        if p not in J: raise Fault(4,4,k)
+        if w in reach(adj(n,T),set(range(n)),v): raise Fault(19,4,k)
+        T.add(p)
+    return T
+def path(A,r,x):
+    """The tables on the one way from r to x in a tree, both ends among them."""
+    st=[[r]]
+    while st:
+        way=st.pop()
+        if way[-1]==x: return set(way)
+        st+=[way+[y] for y in A[way[-1]] if y not in way]
+def cross_count(n,J,T,r):
+    A=adj(n,T); ways=[path(A,r,x) for x in range(n)]
+    return sum(1 for v,w in J-T if v not in ways[w] and w not in ways[v])
+def searches(n,J,r):
+    """What each depth-first search from r walks: its joins, for every choice of the next neighbour."""
+    A=adj(n,J)
+    def go(order,walked):
+        for t in reversed(order):
+            new=[y for y in A[t] if y not in order]
+            if new:
+                for y in new: yield from go(order+[y],walked|{(min(t,y),max(t,y))})
+                return
+        yield walked
+    return set(go([r],frozenset()))
+SEARCHED={}
+def walked_by(n,J,r):
+    key=(n,frozenset(J),r)
+    if key not in SEARCHED: SEARCHED[key]=searches(n,J,r)
+    return SEARCHED[key]
+# up to here, all searches are tried; beyond, a table is taken to drive where its cross count is 0
+TRIED=6
+def report(n,J,T):
+    out=[]
+    for r in range(n):
+        c=cross_count(n,J,T,r); d=c==0
+        if n<=TRIED: assert d==(frozenset(T) in walked_by(n,J,r)),(n,J,T,r)
+        out.append((c,d))
+    return out
+def pick(rep,rows):
+    driving=[r for r,(_,d) in enumerate(rep) if d]
+    known=[(rows[r],r) for r in driving if rows.get(r) is not None]
+    if known: return min(known)[1]
+    return driving[0] if driving else None
+def drive(text):
+    try:
+        n,J,marks,rows=read_query(text)
+        T=fill(n,J,marks); rep=report(n,J,T)
+        o=''.join('D%5d%5d%5d\n'%(r,c,d) for r,(c,d) in enumerate(rep))
+        p=pick(rep,rows)
+        return (o+'P'+('%5d'%p if p is not None else ' '*5)+' '*10+'\n').encode()
+    except Fault as f: return X(f)
 if __name__=='__main__':
-    sys.stdout.buffer.write({'assemble':assemble,'replay':replay}[sys.argv[1]](sys.stdin.buffer.read()))
+    sys.stdout.buffer.write({'assemble':assemble,'replay':replay,'drive':drive}[sys.argv[1]](sys.stdin.buffer.read()))

@@ -1,13 +1,11 @@
 -- What an accepted query is: its text read, its graph with a list, and the list's text no longer than the query's.
-use Rattle.std.proofs.Common.{◌≡◌, ℕ, ◌+◌, ◌-◌, ◌*◌, ◌≤◌, List, length, take, replicate, Ok, Err, Result, sym, refl, ap, ◌∙◌, subst, arith}
+use Rattle.std.proofs.Common.{◌≡◌, ℕ, ◌+◌, ◌-◌, ◌≤◌, List, length, take, Ok, Err, Result, sym, refl, ap, ◌∙◌, arith}
 use Rattle.theory.specs.Build.{LegalBuild}
-use Rattle.theory.specs.Graph.{Graph, Simple, joined, is_table, table_count, size}
+use Rattle.theory.specs.Graph.{Graph, joined, is_table, table_count, size}
 use Rattle.theory.specs.declared.mark.Mark.{Mark}
 use Rattle.theory.specs.declared.step.Step.{Step}
 use Rattle.disassembly.specs.Laws.{Fit}
 use Rattle.disassembly.proofs.Keys.{given_legal}
-use Rattle.catalogue.specs.Rows.{unknown}
-use Rattle.catalogue.specs.declared.catalogue.RowRecord.{RowRecord}
 use Rattle.refusals.specs.declared.build.BuildFault.{BuildFault}
 use Rattle.assembly.specs.Build.{list_of, built_of, build_judged, build_answer}
 use Rattle.assembly.specs.declared.build.Built.{Built}
@@ -15,49 +13,22 @@ use Rattle.assembly.proofs.Laws.{There, there}
 use Rattle.assembly.proofs.Verdict.{fit_size, fit_tables}
 use Rattle.texts.specs.ListText.{Listable}
 use Rattle.texts.specs.ListWrite.{list_length}
-use Rattle.queries.specs.QueryLaw.{QueryStands, QueryAccepted}
 use Rattle.rejections.specs.declared.fault.QueryFault.{QueryFault}
 use Rattle.queries.specs.declared.query.QueryHead.{QueryHead}
-use Rattle.queries.proofs.Law.{query_law}
-use Rattle.queries.proofs.Whole.{begun_inside}
 use Rattle.outcomes.specs.declared.fault.ProgramFault.{ProgramFault}
 use Rattle.assembler.specs.Assemble.{query_in, query_then, build_last, assemble_told, steps_left, listed_of, listed}
 use Rattle.assembler.specs.declared.assemble.Listed.{Listed}
-use Rattle.assembler.proofs.Begun.{begun_simple, begun_size}
 use Rattle.assembler.proofs.Able.{legal_able}
 use Rattle.assembler.proofs.Told.{given_is, build_kept}
-
-abbrev pub new_rows : List RowRecord
-new_rows = replicate 64 unknown
+use Rattle.assembler.proofs.Queried.{WasRead, was_read}
 
 module _ (text : List ℕ) (steps : List Step) (marks : List Mark) where
-  -- a query that was read
-  pub record WasRead (h : QueryHead) (m : Graph) : Type 0 where
-    pub stands : QueryStands text 0 marks new_rows h m (query_in text marks).marks (query_in text marks).rows
-    pub simple : Simple m
-    pub long : 17 + 17 * size m ≤ length text
-
-  pub was_read : (h : QueryHead) (m : Graph) → (query_in text marks).told ≡ Ok h → (query_in text marks).graph ≡ m → WasRead h m
-  was_read h m read is =
-      let q = query_in text marks in
-      let law : QueryAccepted text 0 marks new_rows q.told q.graph q.marks q.rows = (query_law text 0 marks new_rows (omega arith)).0 in
-      let here : QueryStands text 0 marks new_rows h q.graph q.marks q.rows =
-      subst (λ r. QueryAccepted text 0 marks new_rows r q.graph q.marks q.rows) read law in
-      let stands : QueryStands text 0 marks new_rows h m q.marks q.rows =
-      subst (λ g. QueryStands text 0 marks new_rows h g q.marks q.rows) is here in
-      let many : size m ≡ length stands.js = ap size stands.left.graph_is ∙ begun_size stands.begun in
-      record {
-        stands = stands;
-        simple = subst Simple (sym stands.left.graph_is) (begun_simple stands.begun);
-        long = omega (arith, many, begun_inside text 0 stands.begun);
-      }
-
   pub record Accepted (m : Graph) : Type 0 where
     pub head : QueryHead
     pub read : (query_in text marks).told ≡ Ok head
     pub graph : m ≡ (query_in text marks).graph
     pub answer : build_answer m (length steps) ≡ Ok (built_of m)
-    pub was : WasRead head m
+    pub was : WasRead text marks head m
     pub fit : Fit (is_table m) (joined m)
     pub legal : LegalBuild m (list_of m).triangle (list_of m).steps
     pub able : Listable (table_count m) (list_of m).triangle (list_of m).steps
@@ -71,7 +42,7 @@ module _ (text : List ℕ) (steps : List Step) (marks : List Mark) where
       → query_then q (build_last r (query_in text marks).graph) ≡ Ok m → Accepted m
   accepted_by m (Ok h) (Ok b) read built e =
       let is : (query_in text marks).graph ≡ m = cc in
-      let was = was_read h m read is in
+      let was = was_read text marks h m read is in
       let good : build_answer m (length steps) ≡ Ok b = sym (ap (λ g. build_answer g (length steps)) is) ∙ built in
       let same : b ≡ built_of m = given_is (build_judged m (length steps)) m b good in
       let answer : build_answer m (length steps) ≡ Ok (built_of m) = good ∙ ap (λ (x : Built). Ok x) same in

@@ -1,8 +1,9 @@
 pub mod Begun
 pub mod Able
 pub mod Told
-pub mod Accepted
 pub mod Unread
+pub mod Queried
+pub mod Accepted
 pub mod Law
 pub mod Agreeing
 pub mod Replays

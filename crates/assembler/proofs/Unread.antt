@@ -1,8 +1,9 @@
--- A text that is refused as a query is the text of no query.
+-- A text that is refused as a query is the text of no query, and no text is that of two.
 --
 --   same_begun   lines of a query that end at the same place of a text are the same lines
 --   goes_on      lines that end before those of a query do are followed by one that is due and accepted
 --   no_query     a text with a line amiss is the text of no query
+--   one_query    two queries with one text are the same
 use Rattle.std.proofs.Common.{◌≡◌, ℕ, ◌+◌, ◌<◌, ◌≤◌, Bool, false, cond, not, eqb, ltb, leb, ◌⊎◌, List, [], ◌∷◌, ◌++◌, length, ℤ, Ok, Err, Result, sym, refl, ap, ◌∙◌, subst, inl, inr, ⊎_elim, arith, length-append}
 use Rattle.std.proofs.lemmas.List.{length_push}
 use Rattle.std.proofs.lemmas.Bool.{cases_lt, false≢true, lt-ltb, lt-leb, ne_eqb, not_from_true}
@@ -315,3 +316,15 @@ module _ (input : List ℕ) (n : ℕ) (js : List (ℕ × ℕ)) (ms : List Mark) 
       (subst (λ x. Begun input 0 63 n x a.js a.ms a.rs) e.1 (subst (λ x. Begun input 0 63 x a.joins a.js a.ms a.rs) e.0 a.begun))
       (subst (λ x. Amiss input (place_after 0 a.js a.ms a.rs) n x a.js (length a.ms) (length a.rs) f) e.1
       (subst (λ x. Amiss input (place_after 0 a.js a.ms a.rs) x a.joins a.js (length a.ms) (length a.rs) f) e.0 a.amiss))
+
+  pub one_query : (k : ℕ) (js' : List (ℕ × ℕ)) (ms' : List Mark) (rs' : List (ℕ × ℤ)) → IsQuery input k js' ms' rs'
+      → (n ≡ k) × (js ≡ js') × (ms ≡ ms') × (rs ≡ rs')
+  one_query k js' ms' rs' r =
+      let g = head_here input 0 63 n (length js) q.begun in
+      let h = head_here input 0 63 k (length js') r.begun in
+      let e = head_of n (length js) k (length js') (same_line input 0 0 (head_line n (length js)) (head_line k (length js')) refl g.here h.here) in
+      let other : Begun input 0 63 n (length js) js' ms' rs' =
+      subst (λ x. Begun input 0 63 n x js' ms' rs') (sym e.1) (subst (λ x. Begun input 0 63 x (length js') js' ms' rs') (sym e.0) r.begun) in
+      let ends : place_after 0 js ms rs ≡ place_after 0 js' ms' rs' = sym long ∙ ap length r.whole ∙ query_length k (length js') js' ms' rs' in
+      let same = same_begun input 0 63 n (length js) q.begun other ends in
+      (e.0, same.0, same.1, same.2)

@@ -3,7 +3,7 @@
 --   ListGiven m r l       the list given is the one that taking the graph apart yields, and no other is
 --   LegalGiven m r l      the list given is a legal build of the graph, and has a step for each join but three
 --   RefusedExactly m r    6, 7 or 8 is told exactly when no triangle and no list of steps whatever is a legal build of the graph
---   Named m r             7 names the lowest table that joins do not lead to from table 0, 8 the lowest articulation table of a
+--   Named m room r        7 names the lowest table that joins do not lead to from table 0, 8 the lowest articulation table of a
 --                         graph that is connected, 9 the number of steps, which is more than the records lent
 --   PlaysBack m r l       the list given, played back into any editable graph of as many tables that has no joins and room for
 --                         those of this one, is accepted and makes the same graph

@@ -11,7 +11,7 @@ pub enum Layer {
     Store = 2,
     /// The replay of a list, and the build request.
     Replay = 3,
-    /// The row counts.
+    /// Marks, the driving request and row counts.
     Rows = 4,
 }
 

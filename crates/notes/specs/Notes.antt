@@ -9,13 +9,12 @@
 --                        what taking u away leaves of the part p, by the parents and numbers of survey s, and the notes of it
 --   remains_of s p, all_notes_of s p
 --                        the same for all tables to take away, one after another
---   poured slots k l     the slots with the records l laid into them from place k on
+--   poured slots k l     the slots with the records l laid into them from place k on, as far as there are slots
 --   any o                the note of o, where there is one
---   Fits s l             the stack s has room for the records l
---   Lays s t l           the stack t is s with the records l laid on top, where they fit
+--   Lays s t l           the stack t is s with the records l laid on top, as many of them, from the first on, as there is room for
 --   corners_of U         the triangle of the three lowest tables of U
---   list_laid notes l    the records l with the notes laid in reverse over the first of them
-use Rattle.std.specs.Prelude.{◌≡◌, ℕ, ◌+◌, ◌-◌, ◌≤◌, Bool, false, not, ◌&&◌, ◌||◌, Some, None, Option, List, [], ◌∷◌, ◌++◌, length, take, drop, ◌==◌, slice_set}
+--   list_laid notes l    the records l with the notes, as many of them as there are records, laid in reverse over the first of them
+use Rattle.std.specs.Prelude.{◌≡◌, ℕ, ◌+◌, ◌-◌, min, Bool, false, not, ◌&&◌, ◌||◌, Some, None, Option, List, [], ◌∷◌, ◌++◌, length, take, drop, ◌==◌, slice_set}
 use Rattle.theory.specs.Build.{Part}
 use Rattle.theory.specs.declared.step.Step.{Step}
 use Rattle.theory.specs.declared.step.Triangle.{Triangle}
@@ -63,12 +62,10 @@ abbrev pub any : Option Step → List Step
 any (Some s) = s ∷ []
 any None = []
 
-abbrev pub Fits : Stack Step → List Step → Type 0
-Fits s l = height_of s + length l ≤ length (slots_of s)
-
 pub record Lays (before after : Stack Step) (l : List Step) : Type 0 where
-  pub laid : Fits before l → slots_of after ≡ poured (slots_of before) (height_of before) l
-  pub height : Fits before l → height_of after ≡ height_of before + length l
+  pub laid : slots_of after ≡ poured (slots_of before) (height_of before) l
+  -- it grows until its slots are full
+  pub height : height_of after ≡ min (height_of before + length l) (length (slots_of before))
   -- the stack is over the same lent slots
   pub lender : lender_of after ≡ lender_of before
 
@@ -76,4 +73,4 @@ unfoldable pub corners_of : (ℕ → Bool) → Triangle
 corners_of U = corners (passing U)
 
 abbrev pub list_laid : List Step → List Step → List Step
-list_laid notes l = reversed notes ++ drop (length notes) l
+list_laid notes l = reversed (take (length l) notes) ++ drop (length notes) l

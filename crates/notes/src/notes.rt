@@ -1,7 +1,7 @@
 //! Tables taken away from a graph, and the notes of it, laid into lent records.
 //! stays: a table is a plain number, as in the traits, in steps and in refusals, where any number may come; a type of those below
 //! 64 would have to be made from each of them, and clauses, whose definitions are over numbers, would look through it.
-ghost use Rattle.std.specs.Prelude.{◌≡◌, ℕ, ◌<◌, ◌≤◌, not, ◌&&◌, [], ◌∷◌, length, ◌==◌};
+ghost use Rattle.std.specs.Prelude.{◌≡◌, ℕ, ◌<◌, not, ◌&&◌, [], ◌∷◌, ◌==◌};
 ghost use Rattle.std.specs.Bool.{then_some};
 ghost use Rattle.sets.specs.Set.{tables_of};
 ghost use Rattle.sets.specs.Rows.{in_row};
@@ -75,6 +75,7 @@ fn node(u: u32, v: u32, w: u32) -> Step
 }
 
 /// Lays one more note, where there is room for it.
+#[tactic(auto, using(crate::proofs::Poured::lays_one))]
 fn lay(note: Step, notes: &mut Stack<Step>)
     ensures { Lays notes.old notes.new (note ∷ []) }
 {
@@ -159,12 +160,13 @@ fn corners(tables: TableSet) -> Triangle
     }
 }
 
-/// Lays the build list into the records, where they are enough: all but the last three of the tables that a search left are taken
-/// away, and the notes of it, in reverse, are its steps. The three tables that remain are its triangle, which is answered.
+/// Lays the build list into the records: all but the last three of the tables that a search left are taken away, and the notes of
+/// it, in reverse, are its steps. The three tables that remain are its triangle, which is answered. Of notes that are more than the
+/// records, the first ones are laid, so many as there are records, and these in reverse.
 pub fn lay_list(mut part: Part, survey: &Survey, records: &mut [Step]) -> Triangle
     ensures triangle { result ≡ corners_of (remains_of survey.now (part_in part.tables part.rows)).in_use }
-    ensures steps { let notes = all_notes_of survey.now (part_in part.tables part.rows) in
-        length notes ≤ length records.old → records.new ≡ list_laid notes records.old }
+    // too few, they hold the notes of the first removals, in reverse; more than enough, the later ones keep their contents
+    ensures steps { records.new ≡ list_laid (all_notes_of survey.now (part_in part.tables part.rows)) records.old }
 {
     let mut notes = Stack::new(records);
     part.take_all(survey, &mut notes);

@@ -4,13 +4,15 @@
 ghost use Rattle.std.specs.Prelude.{◌≡◌};
 ghost use Rattle.graph.specs.Layer.{layer_number};
 ghost use Rattle.outcomes.specs.Fault.{fault_number, fault_layer, fault_place};
-ghost use Rattle.outcomes.specs.declared.fault.ProgramFault.TheVariants.{Text, Replay, Query, Build};
+ghost use Rattle.outcomes.specs.declared.fault.ProgramFault.TheVariants.{Text, Replay, Query, Build, Tree, Drive};
 
+use driving::fault::DriveFault;
 use graph::layer::Layer;
 use refusals::build::BuildFault;
 use refusals::fault::ReplayFault;
 use rejections::fault::QueryFault;
 use texts::fault::TextFault;
+use trees::fault::TreeFault;
 
 /// A refusal of any layer.
 #[derive(Clone, Copy, PartialEq, Eq, Debug)]
@@ -19,6 +21,8 @@ pub enum ProgramFault {
     Replay(ReplayFault),
     Query(QueryFault),
     Build(BuildFault),
+    Tree(TreeFault),
+    Drive(DriveFault),
 }
 
 impl From<TextFault> for ProgramFault {
@@ -53,6 +57,22 @@ impl From<BuildFault> for ProgramFault {
     }
 }
 
+impl From<TreeFault> for ProgramFault {
+    ghost from_gives = { λ f r. r ≡ Tree f };
+
+    fn from(tree: TreeFault) -> ProgramFault {
+        ProgramFault::Tree(tree)
+    }
+}
+
+impl From<DriveFault> for ProgramFault {
+    ghost from_gives = { λ f r. r ≡ Drive f };
+
+    fn from(drive: DriveFault) -> ProgramFault {
+        ProgramFault::Drive(drive)
+    }
+}
+
 impl ProgramFault {
     /// The refusal's number.
     pub fn number(self) -> u32
@@ -63,6 +83,8 @@ impl ProgramFault {
             ProgramFault::Replay(fault) => fault.number(),
             ProgramFault::Query(fault) => fault.number(),
             ProgramFault::Build(fault) => fault.number(),
+            ProgramFault::Tree(fault) => fault.number(),
+            ProgramFault::Drive(fault) => fault.number(),
         }
     }
 
@@ -75,10 +97,12 @@ impl ProgramFault {
             ProgramFault::Replay(fault) => fault.layer(),
             ProgramFault::Query(fault) => fault.layer(),
             ProgramFault::Build(fault) => fault.layer(),
+            ProgramFault::Tree(fault) => fault.layer(),
+            ProgramFault::Drive(fault) => fault.layer(),
         }
     }
 
-    /// The place in the text, the step, the table or the amount that it names, or 0.
+    /// The place in the text, the step, the mark's turn, the table or the amount that it names, or 0.
     // stays: an X line has a place in any case, and 0 is the one of a refusal that names none
     pub fn place(self) -> usize
         ensures { result ≡ fault_place self }
@@ -88,6 +112,8 @@ impl ProgramFault {
             ProgramFault::Replay(fault) => fault.place(),
             ProgramFault::Query(fault) => fault.place(),
             ProgramFault::Build(fault) => fault.value(),
+            ProgramFault::Tree(fault) => fault.place(),
+            ProgramFault::Drive(fault) => fault.place(),
         }
     }
 }

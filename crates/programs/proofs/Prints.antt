@@ -1,5 +1,6 @@
 -- What is laid over the text, where the writers say that they have written it, and where they say that it does not fit.
 --
+--   room_told, unroomed         what is answered where a text fits, and where it does not
 --   graph_bytes                 how long a graph's text is
 --   graph_count                 a graph that was written: how many bytes
 --   graph_unfit                 a graph that does not fit is shown as its refusal
@@ -26,7 +27,7 @@ use Rattle.outcomes.specs.Fault.{fault_number, fault_layer, fault_place}
 use Rattle.programs.specs.Refusal.{refusal_shown}
 use Rattle.programs.specs.Replay.{printed, roomed, shown}
 use Rattle.outcomes.specs.declared.fault.ProgramFault.{ProgramFault}
-use Rattle.outcomes.specs.declared.fault.ProgramFault.TheVariants.{Text, Replay, Query, Build}
+use Rattle.outcomes.specs.declared.fault.ProgramFault.TheVariants.{Text, Replay, Query, Build, Tree, Drive}
 
 pub graph_bytes : (m : Graph) → Simple m → length (text_of_graph m) ≡ graph_length m
 graph_bytes m s =
@@ -40,13 +41,14 @@ unrefused : {X F : Type 0} (b : Bool) (f : F) (r : Result X F) (x : X) → Ok x 
 unrefused true f r x e = cc
 unrefused false f r x e = (refl, e)
 
-room_told : (needed b n : ℕ) → Ok n ≡ room_for needed b → (n ≡ needed) × (needed ≤ b)
+-- an answer where there is room, and one where there is none
+pub room_told : (needed b n : ℕ) → Ok n ≡ room_for needed b → (n ≡ needed) × (needed ≤ b)
 room_told needed b n e =
     let p = unrefused (ltb b needed) (TooFew needed) (Ok needed) n e in
     let f = p.1 in
     ((let g : n ≡ needed = cc in g), ltb-false b needed p.0)
 
-unroomed : (needed b : ℕ) (f : TextFault) (c : Bool) → ltb b needed ≡ c → Err f ≡ cond c (Err (TooFew needed)) (Ok needed) → (f ≡ TooFew needed) × (ltb b needed ≡ true)
+pub unroomed : (needed b : ℕ) (f : TextFault) (c : Bool) → ltb b needed ≡ c → Err f ≡ cond c (Err (TooFew needed)) (Ok needed) → (f ≡ TooFew needed) × (ltb b needed ≡ true)
 unroomed needed b f true test e = ((let g : f ≡ TooFew needed = cc in g), test)
 unroomed needed b f false test e = cc
 
@@ -90,12 +92,16 @@ number_small (Text f) = grind arith
 number_small (Replay f) = grind arith
 number_small (Query f) = grind arith
 number_small (Build f) = grind arith
+number_small (Tree f) = grind arith
+number_small (Drive f) = grind arith
 
 pub layer_small : (f : ProgramFault) → fault_layer f ≤ 99999
 layer_small (Text f) = omega arith
 layer_small (Replay f) = grind arith
 layer_small (Query f) = grind arith
 layer_small (Build f) = omega arith
+layer_small (Tree f) = omega arith
+layer_small (Drive f) = omega arith
 
 -- the line that is written, the numbers as they were passed on
 laid_by : (text line : List ℕ) (c d : Bool) → laid_if {X = ℕ} (cond c (Err (OutOfLimits 0)) (cond d (Err (TooFew 17)) (Ok 17))) text line ≡ laid text 0 (cond (c || d) [] line)

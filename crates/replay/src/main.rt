@@ -7,6 +7,7 @@ use programs::workspace::{Mark, PAGE, TEXT};
 use std::io;
 use std::io::{Read, Write};
 use streams::input::{read_rest, read_whole, take_over};
+use streams::records::ROW;
 use theory::step::Step;
 
 /// Reads on into memory for the longest text, where a page was not enough, and prints.
@@ -31,14 +32,15 @@ fn replay_long<R: Read, W: Write>(
 
 fn main(rt: HostRuntime) -> io::Result<()> {
     let mut page = [0u8; PAGE];
-    let mut steps = [Step::Edge { v: 0, w: 0 }; 2013];
+    let mut rows = [ROW; 33];
+    let steps = rows.as_flattened_mut().as_mut_array().unwrap();
     // the programs hold the same memory; this one reads no marks
     let _marks = [Mark { v: 0, w: 0 }; 63];
     let mut input = rt.stdin();
     let mut output = rt.stdout();
     let len = read_whole(&mut input, &mut page)?;
-    match replay_page(&mut page, len, &mut steps) {
+    match replay_page(&mut page, len, steps) {
         Some(n) => output.write_all(&page[..n]),
-        None => replay_long(&mut input, &mut output, &page[..len], &mut steps),
+        None => replay_long(&mut input, &mut output, &page[..len], steps),
     }
 }

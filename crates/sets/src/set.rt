@@ -5,7 +5,7 @@
 ghost use Rattle.std.specs.Prelude.{◌≡◌, ℕ, ◌<◌, ◌||◌, ◌&&◌, not, ◌==◌, nat_lt, IfSome};
 ghost use Rattle.std.specs.Iterator.{YieldsFirst};
 ghost use Rattle.theory.specs.Graph.{Next};
-ghost use Rattle.sets.specs.Set.{bit, lowest_in, tables_of};
+ghost use Rattle.sets.specs.Set.{bit, bits_set, lowest_in, tables_of};
 
 use super::tables::Tables;
 use std::marker::Model;
@@ -76,6 +76,13 @@ impl TableSet {
         ensures { result ≡ (self == 0) }
     {
         self.bits == 0
+    }
+
+    /// How many tables are in it.
+    pub fn len(self) -> u32
+        ensures { result ≡ bits_set self }
+    {
+        self.bits.count_ones()
     }
 
     /// Whether a table is in it.

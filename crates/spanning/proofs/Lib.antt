@@ -6,3 +6,6 @@ pub mod Along
 pub mod Forests
 pub mod Labels
 pub mod Enough
+pub mod DriveLeaving
+pub mod DriveUnder
+pub mod DriveCross

@@ -1,4 +1,4 @@
--- Which tables may drive: those from which some depth-first search of the joins walks precisely the marks.
+-- Which tables drive: those from which some depth-first search of the joins walks precisely the marks.
 --
 --   Ended J l           the search has come to its end: no discovered table has an undiscovered neighbour
 --   Walked f r l a b    the join of a and b was walked: one of the two was discovered from the other

@@ -6,8 +6,11 @@
 --   Under t s x          x is s, or lies beyond s as seen from table 0
 --   unmarked m t a b     a and b are joined, and the join is not marked
 --   CountAtZero          a cross join for table 0 is an unmarked one between two tables of which neither is under the other
+--   parent_in t x        the parent of x in the tree as seen from table 0
+--   TellsUnder t under   the test `under` tells which tables are under which
 --   CountAlong           from a table's parent to the table, the cross count grows by the unmarked joins of the parent with tables
---                        under it, and falls by its own unmarked joins with tables not under it
+--                        under the table, and falls by the table's unmarked joins with tables not under it
+--   Acyclic t            no mark of t lies on a ring of marks
 --   ClosesNothing        a mark between two tables that the marks do not connect closes no ring
 --   EnoughMarks          marks without a ring, one fewer than tables, connect all of them
 use Rattle.std.specs.Prelude.{◌≡◌, ℕ, ◌+◌, ◌<◌, Bool, true, not, ◌&&◌, ◌↔◌}

@@ -1,6 +1,6 @@
 -- Spanning trees. A tree is a graph whose joins are the marks; it has no root.
 --
---   Spanning t   the marks of t connect all of its tables without a ring, so that there is one fewer than tables
+--   Spanning t   the marks of t connect all of its tables without a ring, so that there is one mark fewer than tables
 use Rattle.std.specs.Prelude.{◌≡◌, ℕ, ◌+◌, true}
 use Rattle.theory.specs.Build.{without_join}
 use Rattle.theory.specs.Graph.{Graph, Simple, joined, is_table, table_count, size}

@@ -14,10 +14,9 @@ use Rattle.disassembly.specs.Search.{has, fresh, Place, move, moved, moves, at_s
 use Rattle.disassembly.proofs.Visits.{fresh_true}
 use Rattle.disassembly.proofs.Searches.{moved_some, moved_none, moves_last, moved_stay}
 use Rattle.memory.specs.Stack.{top_of, held}
-use Rattle.sets.specs.Set.{bit}
+use Rattle.sets.specs.Set.{bit, bits_set}
 use Rattle.sets.proofs.Bit.{zero_bit}
 use Rattle.traversal.specs.Discoveries.{parent_in, number_in, earlier_in}
-use Rattle.traversal.specs.Sets.{bits_set}
 use Rattle.sets.specs.Rows.{in_row}
 use Rattle.traversal.specs.Standing.{before, to_discover, Discovers, Leaves, way_of, Starts, Stands, Standing, Below64}
 use Rattle.traversal.specs.declared.survey.Survey.{Survey}

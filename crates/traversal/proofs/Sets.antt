@@ -9,10 +9,10 @@ use Rattle.std.proofs.lemmas.Bool.{cases_lt, cases_eq, eq-eqb, eqb-true}
 use Rattle.std.proofs.lemmas.Bool.Decides.{nat_tests}
 use Rattle.theory.specs.Graph.{count}
 use Rattle.theory.proofs.Sizes.{count_le, count_one}
-use Rattle.sets.specs.Set.{bit}
+use Rattle.sets.specs.Set.{bit, bits_set}
 use Rattle.sets.proofs.Bit.{zero_bit, none_above}
 use Rattle.sets.proofs.Lowest.{no_bits}
-use Rattle.traversal.specs.Sets.{bits_set, apart}
+use Rattle.traversal.specs.Sets.{apart}
 
 fewer_below : (n x y u : ℕ) → u < n → bit x u ≡ true → ((k : ℕ) → bit y k ≡ (not (eqb k u) && bit x k)) → count (bit x) n ≡ count (bit y) n + 1
 fewer_below n x y u h held out = count_one (bit y) (bit x) u n h (out u ∙ (grind (arith, nat_tests))) held (λ k _ ne. out k ∙ (grind (arith, nat_tests)))

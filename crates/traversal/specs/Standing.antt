@@ -14,10 +14,9 @@ use Rattle.std.specs.Prelude.{◌≡◌, ℕ, ◌+◌, ◌*◌, ◌<◌, Bool, t
 use Rattle.disassembly.specs.Search.{has, discovery, Place}
 use Rattle.disassembly.specs.Disassembly.{reversed}
 use Rattle.memory.specs.Stack.{slots_of, height_of, held}
-use Rattle.sets.specs.Set.{bit}
+use Rattle.sets.specs.Set.{bit, bits_set}
 use Rattle.sets.specs.Rows.{in_row}
 use Rattle.traversal.specs.Discoveries.{undiscovered, parent_in, number_in, earlier_in}
-use Rattle.traversal.specs.Sets.{bits_set}
 use Rattle.traversal.specs.declared.discovery.Discovery.{Discovery}
 use Rattle.traversal.specs.declared.survey.Survey.{Survey}
 use Rattle.traversal.specs.declared.walk.Walk.{Walk}

@@ -2,6 +2,10 @@
 --
 --   Tells p s       the survey s tells the place p where the search ended: parents, discovery numbers, the tables discovered
 --                   earlier, and the order of leaving
+--   SearchesAmong U J r s
+--                   s tells the search of the tables U with the joins J from table r, the tables not reached, and no articulation
+--                   tables
+--   Searches m r s  the same of the graph m
 --   SurveysAmong U J r s
 --                   s is the survey of the tables U with the joins J from table r: it tells the search from r, the tables not
 --                   reached, and, where all are reached, the articulation tables
@@ -23,11 +27,19 @@ pub record Tells (p : Place) (s : Survey) : Type 0 where
   pub earlier : (x y : ℕ) → bit (earlier_in s.found x) y ≡ has (before p.seen x) y
   pub left : s.left.items ≡ reversed p.left
 
+pub record SearchesAmong (U : ℕ → Bool) (J : ℕ → ℕ → Bool) (r : ℕ) (s : Survey) : Type 0 where
+  pub tells : Tells (searched U J r) s
+  pub unreached : (x : ℕ) → bit s.unreached x ≡ (U x && not (reached U J r x))
+  pub articulations : s.articulations ≡ 0
+
 pub record SurveysAmong (U : ℕ → Bool) (J : ℕ → ℕ → Bool) (r : ℕ) (s : Survey) : Type 0 where
   pub tells : Tells (searched U J r) s
   pub unreached : (x : ℕ) → bit s.unreached x ≡ (U x && not (reached U J r x))
   pub articulations : s.unreached ≡ 0 → (x : ℕ) → bit s.articulations x ≡ separates U J x
   pub otherwise : (s.unreached ≢ 0) → s.articulations ≡ 0
+
+abbrev pub Searches : Graph → ℕ → Survey → Type 0
+Searches m r s = SearchesAmong (is_table m) (joined m) r s
 
 abbrev pub Surveys : Graph → ℕ → Survey → Type 0
 Surveys m r s = SurveysAmong (is_table m) (joined m) r s

@@ -1,7 +1,7 @@
 //! A search under way.
 ghost use Rattle.std.specs.Prelude.{◌≡◌, ℕ, ◌+◌, ◌<◌, ◌≤◌, length, slice_index};
 ghost use Rattle.memory.specs.Stack.{slots_of, height_of, held};
-ghost use Rattle.traversal.specs.Sets.{bits_set};
+ghost use Rattle.sets.specs.Set.{bits_set};
 
 use super::survey::Survey;
 use memory::stack::Stack;

@@ -6,7 +6,9 @@ use Rattle.bits.specs.Rows.{rows_graph}
 use Rattle.disassembly.specs.Search.{searched}
 use Rattle.disassembly.specs.Disassembly.{given}
 use Rattle.sets.specs.Rows.{in_row}
+use Rattle.notes.specs.Notes.{part_in, all_notes_of}
 use Rattle.notes.proofs.Given.{given_steps, given_length, given_triangle}
+use Rattle.notes.proofs.Laid.{list_whole}
 use Rattle.assembly.proofs.build.lay.Goals as goal
 
 pub invariant_of-part : goal.invariant_of-part
@@ -27,6 +29,7 @@ returns c =
     let long = given_length p c.args.found.now tells (is_table m) (joined m) tables rows c.all_tables.ensures same in
     record {
       triangle = c.lay_list.ensures.triangle ∙ given_triangle p c.args.found.now tells (is_table m) (joined m) tables rows c.all_tables.ensures same;
-      steps = c.lay_list.ensures.steps (subst (λ k. k ≤ length c.args.records.now) (sym long) c.requires.room)
+      steps = c.lay_list.ensures.steps
+          ∙ list_whole (all_notes_of c.args.found.now (part_in tables rows)) c.args.records.now (subst (λ k. k ≤ length c.args.records.now) (sym long) c.requires.room)
           ∙ ap₂ (λ (l : List Step) (k : ℕ). l ++ drop k c.args.records.now) (given_steps p c.args.found.now tells (is_table m) (joined m) tables rows c.all_tables.ensures same) long;
     }

@@ -1,12 +1,13 @@
--- All tables of the graph are surveyed. With a table not reached there are no articulation tables to tell; else the search
--- discovered all.
-use Rattle.std.proofs.Common.{◌≡◌, ℕ, ◌-◌, min, Bool, true, false, eqb, sym, ◌∙◌, refl, arith}
+-- With a table not reached there are no articulation tables to tell; else the search discovered all.
+use Rattle.std.proofs.Common.{◌≡◌, ℕ, ◌-◌, min, Bool, true, false, eqb, List, sym, ◌∙◌, refl, subst, arith}
 use Rattle.std.proofs.lemmas.Bool.{both_ways, eqb-true, eq-eqb}
+use Rattle.theory.specs.Graph.{is_table, joined}
+use Rattle.disassembly.specs.Reach.{separates}
 use Rattle.sets.specs.Set.{bit}
-use Rattle.bits.proofs.Edits.{simple_of}
 use Rattle.sets.specs.Rows.{in_row}
-use Rattle.sets.proofs.Bit.{bit_small}
-use Rattle.traversal.proofs.Surveying.{whole_of, surveyed, may_survey, survey_of}
+use Rattle.bits.specs.Table.{graph_of}
+use Rattle.bits.proofs.Edits.{simple_of}
+use Rattle.traversal.proofs.Surveying.{whole_search, surveyed}
 use Rattle.traversal.proofs.surveys.survey.Goals as goal
 
 -- what it says of a set that it is empty
@@ -16,38 +17,34 @@ some_left m b f e z = both_ways (eqb m 0) (sym e ∙ f) (eq-eqb m 0 z)
 none_left : (m : ℕ) (b : Bool) → b ≡ true → b ≡ eqb m 0 → m ≡ 0
 none_left m b t e = eqb-true m 0 (sym e ∙ t)
 
-pub new-walk-requires : goal.new-walk-requires
-new-walk-requires c =
-    let g = c.args.graph.now in
-    (may_survey g.count g.rows (simple_of g) c.rows-rows.result c.rows-rows.ensures c.all_tables.result c.all_tables.ensures c.min.result (omega arith)).0
-
 pub returns-then-not-is_empty : goal.returns-then-not-is_empty
 returns-then-not-is_empty c =
-    let g = c.args.graph.now in
-    let U = bit c.all_tables.result in
-    let J = in_row c.rows-rows.result in
-    let w = c.run.new.self in
-    let stands = c.run.ensures U c.min.result (λ a. bit_small c.all_tables.result 64 a (omega arith)) c.new-walk.ensures in
-    survey_of g.count g.rows (simple_of g) c.rows-rows.result c.rows-rows.ensures c.all_tables.result c.all_tables.ensures c.min.result (min c.args.start (g.count - 1))
-    w.survey (omega arith) (surveyed U J c.min.result w.survey stands w.survey refl refl refl (λ e. absurd (some_left (w.survey.unreached) c.is_empty.result c.if-not-is_empty.true c.is_empty.ensures e)) (λ _. w.untold))
+    let g = graph_of c.args.graph.now in
+    let s = c.search-survey.result in
+    surveyed (is_table g) (joined g) (min c.args.start (g.tables - 1)) s c.search-survey.ensures s refl refl refl
+    (λ e. absurd (some_left s.unreached c.is_empty.result c.if-not-is_empty.true c.is_empty.ensures e)) (λ _. c.search-survey.ensures.articulations)
 
 pub articulations-survey-requires : goal.articulations-survey-requires
 articulations-survey-requires c =
     let g = c.args.graph.now in
-    let U = bit c.all_tables.result in
-    let J = in_row c.rows-rows.result in
-    let may = may_survey g.count g.rows (simple_of g) c.rows-rows.result c.rows-rows.ensures c.all_tables.result c.all_tables.ensures c.min.result (omega arith) in
-    let stands = c.run.ensures U c.min.result (λ a. bit_small c.all_tables.result 64 a (omega arith)) c.new-walk.ensures in
-    (U, c.min.result, whole_of U J c.min.result c.run.new.self.survey stands may.1 may.0 (none_left c.run.new.self.survey.unreached c.is_empty.result c.if-not-is_empty.false c.is_empty.ensures))
+    let m = graph_of g in
+    let start = min c.args.start (m.tables - 1) in
+    let simple = simple_of g in (
+      is_table m,
+      start,
+      whole_search g.count g.rows c.rows.result simple c.rows.ensures start (let some = g.some in omega arith) c.search-survey.result c.search-survey.ensures
+          (none_left c.search-survey.result.unreached c.is_empty.result c.if-not-is_empty.false c.is_empty.ensures),
+    )
 
 pub returns : goal.returns
 returns c =
     let g = c.args.graph.now in
-    let U = bit c.all_tables.result in
-    let J = in_row c.rows-rows.result in
-    let s = c.run.new.self.survey in
-    let may = may_survey g.count g.rows (simple_of g) c.rows-rows.result c.rows-rows.ensures c.all_tables.result c.all_tables.ensures c.min.result (omega arith) in
-    let stands = c.run.ensures U c.min.result (λ a. bit_small c.all_tables.result 64 a (omega arith)) c.new-walk.ensures in
-    let w = whole_of U J c.min.result s stands may.1 may.0 (none_left c.run.new.self.survey.unreached c.is_empty.result c.if-not-is_empty.false c.is_empty.ensures) in
-    survey_of g.count g.rows (simple_of g) c.rows-rows.result c.rows-rows.ensures c.all_tables.result c.all_tables.ensures c.min.result (min c.args.start (g.count - 1))
-    _ (omega arith) (surveyed U J c.min.result s stands _ refl refl refl (λ _. c.articulations-survey.ensures U c.min.result w) (λ ne. absurd (ne (none_left s.unreached c.is_empty.result c.if-not-is_empty.false c.is_empty.ensures))))
+    let m = graph_of g in
+    let start = min c.args.start (m.tables - 1) in
+    let s = c.search-survey.result in
+    let none = none_left s.unreached c.is_empty.result c.if-not-is_empty.false c.is_empty.ensures in
+    let whole = whole_search g.count g.rows c.rows.result (simple_of g) c.rows.ensures start (let some = g.some in omega arith) s c.search-survey.ensures none in
+    surveyed (is_table m) (joined m) start s c.search-survey.ensures _ refl refl refl
+    (λ _. subst (λ (l : List ℕ). (x : ℕ) → bit c.articulations-survey.result x ≡ separates (is_table m) (in_row l) x) c.rows.ensures
+    (c.articulations-survey.ensures (is_table m) start whole))
+    (λ some. absurd (some none))

@@ -1,7 +1,7 @@
 -- The start is alone on the path.
 use Rattle.std.proofs.Common.{◌≡◌, ◌<◌, [], ◌∷◌, ◌++◌, length, ap, ◌∙◌, subst, sym, arith, ◌+◌, ◌≤◌, refl}
 use Rattle.memory.specs.Stack.{held}
-use Rattle.traversal.specs.Sets.{bits_set}
+use Rattle.sets.specs.Set.{bits_set}
 use Rattle.sets.proofs.Bit.{bit_small}
 use Rattle.traversal.proofs.Sets.{taken_fewer, set_most}
 use Rattle.traversal.proofs.Stacks.{Small, more_small, held_more}

@@ -3,9 +3,8 @@ use Rattle.std.proofs.Common.{◌≡◌, ◌+◌, ◌<◌, Bool, true, ◌&&◌,
 use Rattle.std.proofs.lemmas.Bool.Decides.{nat_tests}
 use Rattle.theory.specs.Graph.{Lowest}
 use Rattle.memory.specs.Stack.{held, slots_after, height_after}
-use Rattle.sets.specs.Set.{bit}
+use Rattle.sets.specs.Set.{bit, bits_set}
 use Rattle.sets.specs.Rows.{in_row}
-use Rattle.traversal.specs.Sets.{bits_set}
 use Rattle.traversal.specs.Standing.{to_discover, Discovers, way_of}
 use Rattle.traversal.specs.declared.discovery.Discovery.{Discovery}
 use Rattle.traversal.specs.declared.survey.Survey.{Survey}

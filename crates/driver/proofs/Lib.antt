@@ -1,0 +1,4 @@
+pub mod Requests
+pub mod Law
+pub mod Shows
+pub mod Whole

@@ -1,0 +1,4 @@
+pub mod Drive
+pub mod DriveLaw
+pub mod Inner
+pub mod Driven

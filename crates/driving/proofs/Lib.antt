@@ -1,0 +1,9 @@
+pub mod Counted
+pub mod Gathering
+pub mod Order
+pub mod Signed
+pub mod Summing
+pub mod Missing
+pub mod Cases
+pub mod LaidRecords
+pub mod Named

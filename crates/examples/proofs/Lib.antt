@@ -1,0 +1,4 @@
+pub mod Requests
+pub mod Printing
+pub mod Rows
+pub mod Reporting

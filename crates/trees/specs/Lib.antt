@@ -1,0 +1,5 @@
+pub mod Fault
+pub mod Tree
+pub mod Spanner
+pub mod Labels
+pub mod Forest
