@@ -3,14 +3,43 @@ ghost use Rattle.std.specs.Prelude.{◌≡◌, ℕ, ◌<◌, ◌≤◌, false, l
 ghost use Rattle.catalogue.specs.Rows.{stored_count, out_of_range, row_record, set_answer, records_after, unknown, count_of, SetsOne};
 
 use super::fault::RowFault;
+use std::marker::Model;
+
+/// The number of a table's rows, where that is known. To a contract it is that number, or none.
+// stays: an `Option` alone has an order, in which what is not known lies below each number; this type has none, so that no planner
+// takes the one for the lowest count by a `<`
+#[derive(Clone, Copy, PartialEq, Eq, Debug)]
+pub struct RowCount {
+    /// From 0 to 2,147,483,647.
+    known: Option<u32>,
+}
+
+impl Model for RowCount {
+    ghost use Rattle.std.specs.Prelude.{ℕ, Option};
+
+    ghost Value = { Option ℕ };
+
+    ghost view = { λ c. c.known };
+
+    ghost inverse = { λ o. record { known = o } };
+}
+
+impl RowCount {
+    /// The number, or none where it is not known.
+    pub fn known(self) -> Option<u32>
+        ensures { result ≡ self }
+    {
+        self.known
+    }
+}
 
 /// What is kept of one table.
 // stays: a rule of the project: sixty-four records, of which one is lent by `&mut` to its setter, whatever else a record may come to
 // hold
 #[derive(Clone, Copy, PartialEq, Eq, Debug)]
 pub struct RowRecord {
-    /// The number of its rows, from 0 to 2,147,483,647, where that is known.
-    count: Option<u32>,
+    /// The number of its rows.
+    count: RowCount,
 }
 
 impl RowRecord {
@@ -19,7 +48,9 @@ impl RowRecord {
         requires { out_of_range stored ≡ false }
         ensures { self.new.count ≡ stored_count stored }
     {
-        self.count = u32::try_from(stored).ok();
+        self.count = RowCount {
+            known: u32::try_from(stored).ok(),
+        };
     }
 }
 
@@ -41,15 +72,19 @@ impl Catalogue {
         ensures { records_of result ≡ replicate 64 unknown }
     {
         Catalogue {
-            records: [RowRecord { count: None }; 64],
+            records: [RowRecord {
+                count: RowCount { known: None },
+            }; 64],
         }
     }
 
-    /// The count of a table where it is known, and none for a number not below 64.
-    pub fn get(&self, table: u32) -> Option<u32>
+    /// The count of a table, not known for a number not below 64.
+    pub fn get(&self, table: u32) -> RowCount
         ensures { result ≡ count_of (records_of self.now) table }
     {
-        self.records.get(table as usize)?.count
+        self.records
+            .get(table as usize)
+            .map_or(RowCount { known: None }, |record| record.count)
     }
 
     /// Lends the table's record to its setter.

@@ -2,6 +2,7 @@
 --
 --   part_after_is     what is left, in one: u and its joins are replaced by the join of f and a, whatever was removed before
 --   taken_is, taken_in_use, taken_joins   the same for the function
+--   taken_step, noted_step   what one turn takes and notes, as its parts
 --   remaining_none, remaining_more, notes_none, notes_more   the functions, one turn at a time
 --   reversed_notes    the notes in reverse
 --   undo_away         they build the part again, where u's neighbours f and a differ
@@ -38,6 +39,16 @@ pub taken_joins : (parent rank : ℕ → ℕ) (u : ℕ) (p : Part) (x y : ℕ)
 taken_joins parent rank u p x y = ap (λ q. q.joins x y) (taken_is parent rank u p)
 
 -- ---- one turn
+
+pub taken_step : (parent rank : ℕ → ℕ) (u : ℕ) (p : Part)
+    → taken parent rank u p ≡ part_after u (parent u) (nearest_of parent rank u p) (passing (other u (parent u) (nearest_of parent rank u p) p)) p
+unfolding taken
+taken_step parent rank u p = refl
+
+pub noted_step : (parent rank : ℕ → ℕ) (u : ℕ) (p : Part)
+    → noted parent rank u p ≡ notes_of u (parent u) (nearest_of parent rank u p) (passing (other u (parent u) (nearest_of parent rank u p) p)) p
+unfolding noted
+noted_step parent rank u p = refl
 
 pub remaining_none : (parent rank : ℕ → ℕ) (p : Part) → remaining parent rank [] p ≡ p
 unfolding remaining

@@ -18,6 +18,7 @@ use Rattle.spanning.proofs.DriveLeaving.{Ordered, parent_later, root_parent}
 use Rattle.traversal.specs.Survey.{Searches}
 use Rattle.traversal.specs.declared.survey.Survey.{Survey}
 use Rattle.traversal.proofs.Stacks.{stacked}
+use Rattle.traversal.specs.Order.{tables_in}
 use Rattle.driving.proofs.Order.{in_order}
 
 module _ (t : Graph) (g : Spanning t) (s : Survey) (q : Searches t 0 s) (counts : ℕ → ℕ) where
@@ -32,36 +33,36 @@ module _ (t : Graph) (g : Spanning t) (s : Survey) (q : Searches t 0 s) (counts 
 
   -- what is known when the first k are still to be taken
   abbrev pub Summed : ℕ → List ℕ → Type 0
-  Summed k l = (x : ℕ) → x < table_count t → (x ≡ 0) ⊎ (has (stacked k s.left.items) x ≡ false) → get_or l x 0 ≡ counts x
+  Summed k l = (x : ℕ) → x < table_count t → (x ≡ 0) ⊎ (has (stacked k (tables_in s.left)) x ≡ false) → get_or l x 0 ≡ counts x
 
-  pub sum_begins : (l : List ℕ) → get_or l 0 0 ≡ counts 0 → (k : ℕ) → ((x : ℕ) → x < table_count t → has (stacked k s.left.items) x ≡ true) → Summed k l
+  pub sum_begins : (l : List ℕ) → get_or l 0 0 ≡ counts 0 → (k : ℕ) → ((x : ℕ) → x < table_count t → has (stacked k (tables_in s.left)) x ≡ true) → Summed k l
   sum_begins l e k all x xn c = ⊎_elim
       (λ (z : x ≡ 0). subst (λ y. get_or l y 0 ≡ counts y) (sym z) e)
-      (λ h. absurd (both_ways (has (stacked k s.left.items) x) h (all x xn)))
+      (λ h. absurd (both_ways (has (stacked k (tables_in s.left)) x) h (all x xn)))
       c
 
-  module _ (k : ℕ) (low : k < length s.left.items) (l : List ℕ) (h : (x : ℕ) → x < table_count t → (x ≡ 0) ⊎ (has (stacked (suc k) s.left.items) x ≡ false) → get_or l x 0 ≡ counts x) where
+  module _ (k : ℕ) (low : k < length (tables_in s.left)) (l : List ℕ) (h : (x : ℕ) → x < table_count t → (x ≡ 0) ⊎ (has (stacked (suc k) (tables_in s.left)) x ≡ false) → get_or l x 0 ≡ counts x) where
     abbrev v : ℕ
-    v = get_or s.left.items k 0
+    v = get_or (tables_in s.left) k 0
 
-    order : Ordered f (table_count t) (stacked (suc k) s.left.items)
+    order : Ordered f (table_count t) (stacked (suc k) (tables_in s.left))
     order = in_order t g s q (suc k) (omega arith)
 
-    pub next_table : get_or s.left.items k 0 < table_count t
+    pub next_table : get_or (tables_in s.left) k 0 < table_count t
     next_table = order.0.table
 
-    pub parent_summed : get_or l (parent_in t (get_or s.left.items k 0)) 0 ≡ counts (parent_in t (get_or s.left.items k 0))
+    pub parent_summed : get_or l (parent_in t (get_or (tables_in s.left) k 0)) 0 ≡ counts (parent_in t (get_or (tables_in s.left) k 0))
     parent_summed = ⊎_elim
         (λ (e : v ≡ 0). let z : f v ≡ 0 = ap f e ∙ root_parent t in h (f v) (subst (λ y. y < table_count t) (sym z) hangs.root) (inl z))
         (λ (ne : v ≡ 0 → ⊥). h (f v) (climbs t g.simple f 0 rank hangs v next_table ne)
-        (inr (parent_later f (table_count t) (stacked k s.left.items) v order ne (λ e. let r = hangs.rises v next_table ne in let z : rank (f v) ≡ rank v = ap rank e in omega arith))))
+        (inr (parent_later f (table_count t) (stacked k (tables_in s.left)) v order ne (λ e. let r = hangs.rises v next_table ne in let z : rank (f v) ≡ rank v = ap rank e in omega arith))))
         (cases_eq v 0)
 
-    pub sum_more : (r : ℕ) → get_or s.left.items k 0 < length l → r ≡ counts (get_or s.left.items k 0) → Summed k (set l (get_or s.left.items k 0) r)
+    pub sum_more : (r : ℕ) → get_or (tables_in s.left) k 0 < length l → r ≡ counts (get_or (tables_in s.left) k 0) → Summed k (set l (get_or (tables_in s.left) k 0) r)
     sum_more r room is x xn c = ⊎_elim
         (λ (e : x ≡ v). subst (λ y. get_or (set l v r) y 0 ≡ counts y) (sym e) (get_or-set_same l v r 0 room ∙ is))
-        (λ (ne : x ≡ v → ⊥). get_or-set_other l v x r 0 ne ∙ h x xn (⊎_elim inl (λ out. inr (absent (v ∷ stacked k s.left.items) x
-        (λ k'. ⊎_elim ne (λ z. both_ways (has (stacked k s.left.items) x) out z) (has_cases v (stacked k s.left.items) x k')))) c))
+        (λ (ne : x ≡ v → ⊥). get_or-set_other l v x r 0 ne ∙ h x xn (⊎_elim inl (λ out. inr (absent (v ∷ stacked k (tables_in s.left)) x
+        (λ k'. ⊎_elim ne (λ z. both_ways (has (stacked k (tables_in s.left)) x) out z) (has_cases v (stacked k (tables_in s.left)) x k')))) c))
         (cases_eq x v)
 
   pub sum_all : (l : List ℕ) → Summed 0 l → (x : ℕ) → x < table_count t → get_or l x 0 ≡ counts x

@@ -14,6 +14,7 @@ use Rattle.traversal.specs.Survey.{Tells}
 use Rattle.traversal.specs.declared.survey.Survey.{Survey}
 use Rattle.sets.specs.Rows.{in_row}
 use Rattle.notes.specs.Notes.{part_in, away_in, remains_of, all_notes_of, corners_of}
+use Rattle.traversal.specs.Order.{tables_in}
 use Rattle.notes.proofs.Reversed.{reversed_length, away_taken}
 
 module _ (p : Place) (s : Survey) (tells : Tells p s) (U : ℕ → Bool) (J : ℕ → ℕ → Bool) (tables : ℕ) (rows : List ℕ)
@@ -24,7 +25,7 @@ module _ (p : Place) (s : Survey) (tells : Tells p s) (U : ℕ → Bool) (J : �
   told F =
       ap (λ f. F f (number_in s.found) (away_in s) (part_in tables rows)) (fun_ext tells.parents)
       ∙ ap (λ g. F p.parent g (away_in s) (part_in tables rows)) (fun_ext tells.numbers)
-      ∙ ap (λ l. F p.parent (discovery p.seen) l (part_in tables rows)) (away_taken p s.left.items tells.left)
+      ∙ ap (λ l. F p.parent (discovery p.seen) l (part_in tables rows)) (away_taken p (tables_in s.left) tells.left)
       ∙ ap (λ q. F p.parent (discovery p.seen) (away_of p) q) (part_path (part_in tables rows) (part_of U J) used joins)
 
   pub given_steps : reversed (all_notes_of s (part_in tables rows)) ≡ (given_at p U J).steps

@@ -25,6 +25,7 @@ use Rattle.sets.specs.Rows.{in_row}
 use Rattle.disassembly.specs.Search.{has}
 use Rattle.disassembly.specs.Disassembly.{part_of, other, passing, reversed, taken, noted, remaining, all_notes, corners}
 use Rattle.traversal.specs.Discoveries.{parent_in, number_in}
+use Rattle.traversal.specs.Order.{tables_in}
 use Rattle.traversal.specs.declared.survey.Survey.{Survey}
 
 abbrev pub part_in : ℕ → List ℕ → Part
@@ -40,7 +41,7 @@ unfoldable pub others : (ℕ → ℕ → Bool) → ℕ → ℕ → ℕ → List 
 others J u f a = passing (other u f a (part_of (λ _. false) J))
 
 abbrev pub away_in : Survey → List ℕ
-away_in s = take (length s.left.items - 3) s.left.items
+away_in s = take (length (tables_in s.left) - 3) (tables_in s.left)
 
 abbrev pub taken_of : Survey → ℕ → Part → Part
 taken_of s u p = taken (parent_in s.found) (number_in s.found) u p

@@ -34,9 +34,9 @@ fn query_read(rt: HostRuntime) {
     assert!(rt; graph.joined(1, 2));
     assert!(rt; !graph.joined(0, 2));
     assert_eq!(rt; marks, [Mark { v: 1, w: 0 }, Mark { v: 1, w: 2 }, BLANK]);
-    assert_eq!(rt; rows.get(0), Some(6));
-    assert_eq!(rt; rows.get(1), Some(7));
-    assert_eq!(rt; rows.get(2), None);
+    assert_eq!(rt; rows.get(0).known(), Some(6));
+    assert_eq!(rt; rows.get(1).known(), Some(7));
+    assert_eq!(rt; rows.get(2).known(), None);
 }
 
 /// A query needs neither marks nor row counts.
@@ -205,7 +205,7 @@ fn row_refused(rt: HostRuntime) {
         ),
         Err((1, 4, 34))
     );
-    assert_eq!(rt; rows.get(1), Some(2147483647));
+    assert_eq!(rt; rows.get(1).known(), Some(2147483647));
     assert_eq!(rt;
         told(
             b"G    2    0     \nR    14294967297\n",
@@ -222,18 +222,18 @@ fn row_refused(rt: HostRuntime) {
         ),
         Err((21, 4, 17))
     );
-    assert_eq!(rt; rows.get(1), Some(2147483647));
+    assert_eq!(rt; rows.get(1).known(), Some(2147483647));
 }
 
 /// The catalogue by itself.
 #[test]
 fn rows_set(rt: HostRuntime) {
     let mut rows = Catalogue::new();
-    assert_eq!(rt; rows.get(0), None);
+    assert_eq!(rt; rows.get(0).known(), None);
     assert_eq!(rt; rows.set(63, 0), Ok(()));
-    assert_eq!(rt; rows.get(63), Some(0));
-    assert_eq!(rt; rows.get(62), None);
-    assert_eq!(rt; rows.get(64), None);
+    assert_eq!(rt; rows.get(63).known(), Some(0));
+    assert_eq!(rt; rows.get(62).known(), None);
+    assert_eq!(rt; rows.get(64).known(), None);
     assert_eq!(rt; rows.set(64, -2), Err(RowFault::UnknownTable { table: 64 }));
     assert_eq!(rt;
         rows.set(63, 2147483648),
@@ -242,7 +242,7 @@ fn rows_set(rt: HostRuntime) {
             stored: 2147483648,
         })
     );
-    assert_eq!(rt; rows.get(63), Some(0));
+    assert_eq!(rt; rows.get(63).known(), Some(0));
     assert_eq!(rt; rows.set(63, -1), Ok(()));
-    assert_eq!(rt; rows.get(63), None);
+    assert_eq!(rt; rows.get(63).known(), None);
 }

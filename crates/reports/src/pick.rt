@@ -5,7 +5,7 @@ ghost use Rattle.catalogue.specs.Records.{records_of};
 ghost use Rattle.reports.specs.Pick.{silent, is_lower, better, picked, Picks};
 
 use super::record::ReportRecord;
-use catalogue::catalogue::Catalogue;
+use catalogue::catalogue::{Catalogue, RowCount};
 
 /// Whether the report says that a table drives.
 fn drives(report: &[ReportRecord], table: u32) -> bool
@@ -18,10 +18,10 @@ fn drives(report: &[ReportRecord], table: u32) -> bool
 
 /// Whether a count is lower than another. One that is known is lower than one that is not.
 // stays: `Option`'s own order has an unknown count below each known one
-fn is_lower(count: Option<u32>, other: Option<u32>) -> bool
+fn is_lower(count: RowCount, other: RowCount) -> bool
     ensures { result ≡ is_lower count other }
 {
-    match (count, other) {
+    match (count.known(), other.known()) {
         (None, _) => false,
         (Some(_), None) => true,
         (Some(c), Some(d)) => c < d,

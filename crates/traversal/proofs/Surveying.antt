@@ -22,6 +22,7 @@ use Rattle.sets.specs.Rows.{in_row}
 use Rattle.traversal.specs.Standing.{Stands}
 use Rattle.traversal.specs.Folding.{Whole}
 use Rattle.traversal.specs.Survey.{SearchesAmong, Searches, SurveysAmong}
+use Rattle.traversal.specs.Order.{tables_in}
 use Rattle.traversal.specs.declared.survey.Survey.{Survey}
 
 reached_is : (U : ℕ → Bool) (J : ℕ → ℕ → Bool) (r x : ℕ) → reached U J r x ≡ has (searched U J r).seen x
@@ -60,7 +61,7 @@ module _ (U : ℕ → Bool) (J : ℕ → ℕ → Bool) (r : ℕ) (s : Survey) (q
   }
 
   -- the same search, with the articulation tables or without
-  pub surveyed : (t : Survey) → t.found ≡ s.found → t.left.items ≡ s.left.items → t.unreached ≡ s.unreached
+  pub surveyed : (t : Survey) → t.found ≡ s.found → (tables_in t.left) ≡ (tables_in s.left) → t.unreached ≡ s.unreached
       → (t.unreached ≡ 0 → (x : ℕ) → bit t.articulations x ≡ separates U J x) → ((t.unreached ≡ 0 → ⊥) → t.articulations ≡ 0) → SurveysAmong U J r t
   surveyed t found left unreached cuts none = record {
     tells = record {

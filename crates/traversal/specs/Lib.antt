@@ -1,4 +1,5 @@
 pub mod Discoveries
+pub mod Order
 pub mod Sets
 pub mod Standing
 pub mod Folding

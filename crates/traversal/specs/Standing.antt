@@ -19,6 +19,7 @@ use Rattle.sets.specs.Rows.{in_row}
 use Rattle.traversal.specs.Discoveries.{undiscovered, parent_in, number_in, earlier_in}
 use Rattle.traversal.specs.declared.discovery.Discovery.{Discovery}
 use Rattle.traversal.specs.declared.survey.Survey.{Survey}
+use Rattle.traversal.specs.Order.{tables_in}
 use Rattle.traversal.specs.declared.walk.Walk.{Walk}
 
 abbrev pub before : List ℕ → ℕ → List ℕ
@@ -30,19 +31,19 @@ to_discover rows s t y = in_row rows t y && bit s.unreached y
 
 pub record Starts (tables r : ℕ) (s : Survey) : Type 0 where
   pub found : s.found ≡ replicate 64 undiscovered
-  pub left : s.left.items ≡ []
+  pub left : (tables_in s.left) ≡ []
   pub unreached : (x : ℕ) → bit s.unreached x ≡ (not (x == r) && bit tables x)
   pub articulations : s.articulations ≡ 0
 
 pub record Discovers (s : Survey) (u : ℕ) (how : Discovery) (s' : Survey) : Type 0 where
   pub found : s'.found ≡ slice_set s.found u how
-  pub left : s'.left.items ≡ s.left.items
+  pub left : (tables_in s'.left) ≡ (tables_in s.left)
   pub unreached : (x : ℕ) → bit s'.unreached x ≡ (not (x == u) && bit s.unreached x)
   pub articulations : s'.articulations ≡ s.articulations
 
 pub record Leaves (s : Survey) (t : ℕ) (s' : Survey) : Type 0 where
   pub found : s'.found ≡ s.found
-  pub left : s'.left.items ≡ s.left.items ++ (t ∷ [])
+  pub left : (tables_in s'.left) ≡ (tables_in s.left) ++ (t ∷ [])
   pub unreached : s'.unreached ≡ s.unreached
   pub articulations : s'.articulations ≡ s.articulations
 
@@ -56,7 +57,7 @@ pub record Stands (U : ℕ → Bool) (p : Place) (s : Survey) : Type 0 where
   pub parents : (x : ℕ) → parent_in s.found x ≡ p.parent x
   pub numbers : (x : ℕ) → number_in s.found x ≡ discovery p.seen x
   pub earlier : (x y : ℕ) → bit (earlier_in s.found x) y ≡ has (before p.seen x) y
-  pub left : s.left.items ≡ reversed p.left
+  pub left : (tables_in s.left) ≡ reversed p.left
   pub unreached : (x : ℕ) → bit s.unreached x ≡ (U x && not (has p.seen x))
 
 pub record Standing (U : ℕ → Bool) (p : Place) (w : Walk) : Type 0 where

@@ -18,6 +18,7 @@ use Rattle.disassembly.specs.Disassembly.{reversed}
 use Rattle.sets.specs.Set.{bit}
 use Rattle.traversal.specs.Discoveries.{parent_in, number_in, earlier_in}
 use Rattle.traversal.specs.Standing.{before}
+use Rattle.traversal.specs.Order.{tables_in}
 use Rattle.traversal.specs.declared.survey.Survey.{Survey}
 
 pub record Tells (p : Place) (s : Survey) : Type 0 where
@@ -25,7 +26,7 @@ pub record Tells (p : Place) (s : Survey) : Type 0 where
   pub numbers : (x : ℕ) → number_in s.found x ≡ discovery p.seen x
   -- the tables discovered before it
   pub earlier : (x y : ℕ) → bit (earlier_in s.found x) y ≡ has (before p.seen x) y
-  pub left : s.left.items ≡ reversed p.left
+  pub left : (tables_in s.left) ≡ reversed p.left
 
 pub record SearchesAmong (U : ℕ → Bool) (J : ℕ → ℕ → Bool) (r : ℕ) (s : Survey) : Type 0 where
   pub tells : Tells (searched U J r) s

@@ -7,6 +7,7 @@
 mod articulations;
 pub mod discovery;
 mod lows;
+pub mod order;
 mod search;
 pub mod survey;
 pub mod surveys;

@@ -1,18 +1,18 @@
 //! The rising depth-first search, one move at a time.
-ghost use Rattle.std.specs.Prelude.{◌≡◌, ℕ, ◌<◌, Bool, true, replicate, Some, IfSome};
-ghost use Rattle.arrayvec.specs.ArrayVec.{array_vec_len};
+ghost use Rattle.std.specs.Prelude.{◌≡◌, ℕ, ◌<◌, Bool, true, length, replicate, Some, IfSome};
 ghost use Rattle.theory.specs.Graph.{Next};
 ghost use Rattle.disassembly.specs.Search.{Place, moved, at_start, searched};
 ghost use Rattle.memory.specs.Stack.{slots_of, height_of, top_of};
 ghost use Rattle.sets.specs.Set.{bit};
 ghost use Rattle.sets.specs.Rows.{in_row};
 ghost use Rattle.traversal.specs.Discoveries.{undiscovered};
+ghost use Rattle.traversal.specs.Order.{tables_in};
 ghost use Rattle.traversal.specs.Standing.{to_discover, Starts, Discovers, Leaves, work, Stands, Standing, Below64};
 
 use super::discovery::Discovery;
+use super::order::TableOrder;
 use super::survey::Survey;
 use super::walk::Walk;
-use arrayvec::ArrayVec;
 use memory::stack::Stack;
 use sets::rows::Rows;
 use sets::set::TableSet;
@@ -35,7 +35,7 @@ impl Survey {
     {
         Survey {
             found: none_found(),
-            left: ArrayVec::new(),
+            left: TableOrder::new(),
             unreached: tables.without(start),
             articulations: TableSet::new(),
         }
@@ -60,10 +60,10 @@ impl Survey {
 
     /// Leaves `t` for good.
     fn leave(&mut self, t: u32)
-        requires { (t < 64) × (array_vec_len self.old.left < 64) }
+        requires { (t < 64) × (length (tables_in self.old.left) < 64) }
         ensures { Leaves self.old t self.new }
     {
-        self.left.push(t);
+        let _ = self.left.push(t);
     }
 }
 

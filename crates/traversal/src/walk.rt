@@ -2,6 +2,7 @@
 ghost use Rattle.std.specs.Prelude.{◌≡◌, ℕ, ◌+◌, ◌<◌, ◌≤◌, length, slice_index};
 ghost use Rattle.memory.specs.Stack.{slots_of, height_of, held};
 ghost use Rattle.sets.specs.Set.{bits_set};
+ghost use Rattle.traversal.specs.Order.{tables_in};
 
 use super::survey::Survey;
 use memory::stack::Stack;
@@ -23,7 +24,7 @@ pub struct Walk<'a> {
     /// Each table on the path is below 64.
     ghost way: { (x : ℕ) → slice_index (held (slots_of path) (height_of path)) x < 64 },
     /// What is discovered is left or on the path.
-    ghost shares: { length survey.left.items + height_of path ≡ next },
+    ghost shares: { length (tables_in survey.left) + height_of path ≡ next },
     /// No more tables than 64 are discovered or to be discovered.
     ghost room: { bits_set survey.unreached + next ≤ 64 },
     /// The path has a place for each of them.

@@ -6,6 +6,7 @@ use Rattle.traversal.specs.declared.discovery.Discovery.{Discovery}
 use Rattle.driving.proofs.Counted.{how_many_most}
 use Rattle.driving.proofs.Gathering.{gone_none}
 use Rattle.driving.proofs.Order.{parent_told, turn_told, end_told}
+use Rattle.traversal.specs.Order.{tables_in}
 use Rattle.driving.proofs.subtrees.subtrees_of.Goals as goal
 
 bounded : (a b c i : ℕ) → a ≡ b + c → c ≤ 64 → b ≤ 64 * i → a ≤ 64 * (i + 1)
@@ -31,7 +32,7 @@ loop-v-preserved c =
     let s = c.args.survey.now in
     let i = c.loop-v.v-index in
     let v = get_or c.as_slice-v-items.result.now i 0 in
-    let long : length c.as_slice-v-items.result.now ≡ length s.left.items = ap length c.as_slice-v-items.ensures.value in
+    let long : length c.as_slice-v-items.result.now ≡ length (tables_in s.left) = ap length c.as_slice-v-items.ensures.value in
     let low : v < 64 = subst (λ (l : List ℕ). get_or l i 0 < 64) (sym c.as_slice-v-items.ensures.value) (s.low i) in
     record {
       few = bounded c.gather.new.self.cross c.loop-v.trees.cross _ i c.gather.ensures.cross (how_many_most _) c.loop-v.invariant.few;
@@ -42,5 +43,5 @@ loop-v-preserved c =
 
 pub returns : goal.returns
 returns c = λ m t h.
-    let long : length c.as_slice-v-items.result.now ≡ length c.args.survey.now.left.items = ap length c.as_slice-v-items.ensures.value in
+    let long : length c.as_slice-v-items.result.now ≡ length (tables_in c.args.survey.now.left) = ap length c.as_slice-v-items.ensures.value in
     end_told m t c.args.joins.now c.args.marks.now c.args.survey.now h c.loop-v.v-index (omega (arith, c.loop-v-test.false, c.loop-v.auto.v-index-end)) c.loop-v.trees (c.loop-v.invariant.told m t h)

@@ -7,6 +7,7 @@ use Rattle.traversal.proofs.Stacks.{stacked}
 use Rattle.driving.proofs.Order.{all_told, parent_told}
 use Rattle.driving.proofs.Signed.{may_move, moves_to}
 use Rattle.driving.proofs.Summing.{Summed, sum_begins, next_table, parent_summed, sum_more, sum_all}
+use Rattle.traversal.specs.Order.{tables_in}
 use Rattle.driving.proofs.sums.sums.Goals as goal
 
 -- of the places 0 to k - 1 the last is k - 1
@@ -16,11 +17,11 @@ last_place k h = omega arith
 pub loop-k-init : goal.loop-k-init
 loop-k-init c =
     let s = c.args.survey.now in
-    let long : length s.left.items ≡ length c.as_slice-left.result.now = ap length (sym c.as_slice-left.ensures.value) in
+    let long : length (tables_in s.left) ≡ length c.as_slice-left.result.now = ap length (sym c.as_slice-left.ensures.value) in
     record {
       long = omega arith;
       told = λ t counts h. sum_begins t h.spanning s h.search counts c.begun-counts.result (c.begun-counts.ensures ∙ sym h.root) (length c.as_slice-left.result.now)
-          (λ x l. subst (λ k. has (stacked k s.left.items) x ≡ true) long (all_told t h.spanning s h.search x l));
+          (λ x l. subst (λ k. has (stacked k (tables_in s.left)) x ≡ true) long (all_told t h.spanning s h.search x l));
     }
 
 pub moved-requires : goal.moved-requires
@@ -31,10 +32,10 @@ moved-requires c =
     let h = c.requires.2 in
     let k = c.loop-k.k - 1 in
     let v = get_or c.as_slice-left.result.now k 0 in
-    let is : v ≡ get_or s.left.items k 0 = ap (λ (l : List ℕ). get_or l k 0) c.as_slice-left.ensures.value in
-    let long : length c.as_slice-left.result.now ≡ length s.left.items = ap length c.as_slice-left.ensures.value in
+    let is : v ≡ get_or (tables_in s.left) k 0 = ap (λ (l : List ℕ). get_or l k 0) c.as_slice-left.ensures.value in
+    let long : length c.as_slice-left.result.now ≡ length (tables_in s.left) = ap length c.as_slice-left.ensures.value in
     let up : suc k ≡ c.loop-k.k = last_place c.loop-k.k c.loop-k-test.true in
-    let low : k < length s.left.items = omega (arith, c.loop-k.auto.k) in
+    let low : k < length (tables_in s.left) = omega (arith, c.loop-k.auto.k) in
     let known = subst (λ j. Summed t h.spanning s h.search counts j c.loop-k.counts) (sym up) (c.loop-k.invariant.told t counts h) in
     let table : v < table_count t = subst (λ y. y < table_count t) (sym is) (next_table t h.spanning s h.search counts k low c.loop-k.counts known) in
     let small : v < 64 = subst (λ y. y < 64) (sym is) (s.low k) in
@@ -51,10 +52,10 @@ loop-k-preserved c = record {
       let s = c.args.survey.now in
       let k = c.loop-k.k - 1 in
       let v = get_or c.as_slice-left.result.now k 0 in
-      let is : v ≡ get_or s.left.items k 0 = ap (λ (l : List ℕ). get_or l k 0) c.as_slice-left.ensures.value in
-      let long : length c.as_slice-left.result.now ≡ length s.left.items = ap length c.as_slice-left.ensures.value in
+      let is : v ≡ get_or (tables_in s.left) k 0 = ap (λ (l : List ℕ). get_or l k 0) c.as_slice-left.ensures.value in
+      let long : length c.as_slice-left.result.now ≡ length (tables_in s.left) = ap length c.as_slice-left.ensures.value in
       let up : suc k ≡ c.loop-k.k = last_place c.loop-k.k c.loop-k-test.true in
-      let low : k < length s.left.items = omega (arith, c.loop-k.auto.k) in
+      let low : k < length (tables_in s.left) = omega (arith, c.loop-k.auto.k) in
       let known = subst (λ j. Summed t h.spanning s h.search counts j c.loop-k.counts) (sym up) (c.loop-k.invariant.told t counts h) in
       let table : v < table_count t = subst (λ y. y < table_count t) (sym is) (next_table t h.spanning s h.search counts k low c.loop-k.counts known) in
       let small : v < 64 = subst (λ y. y < 64) (sym is) (s.low k) in

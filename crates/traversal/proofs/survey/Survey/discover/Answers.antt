@@ -9,4 +9,5 @@ invariant_of-self c =
     record {
       small = λ x. parents_small s.found c.args.u c.args.how x (omega arith) 64 (s.small x) c.requires.1;
       low = s.low;
+      few = s.few;
     }

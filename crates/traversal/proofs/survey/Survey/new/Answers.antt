@@ -8,4 +8,5 @@ pub invariant_of-result : goal.invariant_of-result
 invariant_of-result c = record {
   small = rw c.none_found.ensures (λ x. subst (λ (d : Discovery). d.parent < 64) (sym (none_found 64 x)) (omega arith));
   low = rw c.new.ensures (λ _. omega arith);
+  few = rw c.new.ensures (omega arith);
 }

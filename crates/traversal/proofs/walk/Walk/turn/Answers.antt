@@ -11,6 +11,7 @@ use Rattle.traversal.specs.declared.survey.Survey.{Survey}
 use Rattle.traversal.specs.declared.walk.Walk.{Walk}
 use Rattle.traversal.proofs.Stacks.{Small, more_small, fewer_small, held_more, top_small, some_on_top}
 use Rattle.traversal.proofs.Moves.{turn_on, turn_back, discover_less}
+use Rattle.traversal.specs.Order.{tables_in}
 use Rattle.traversal.proofs.walk.Walk.turn.Goals as goal
 
 pub leave-requires : goal.leave-requires
@@ -24,7 +25,7 @@ pub invariant_of-self : goal.invariant_of-self
 invariant_of-self c =
     let w = c.args.self.now in
     let some : 0 < w.path.len = some_on_top w.path.slots.now w.path.len c.args.table w.path.fits c.requires in
-    let more : length c.leave.new.self.left.items ≡ length w.survey.left.items + 1 = ap length c.leave.ensures.left ∙ length-append w.survey.left.items (c.args.table ∷ []) in
+    let more : length (tables_in c.leave.new.self.left) ≡ length (tables_in w.survey.left) + 1 = ap length c.leave.ensures.left ∙ length-append (tables_in w.survey.left) (c.args.table ∷ []) in
     record {
       way = fewer_small 64 w.path.slots.now c.pop.new.self.slots.now w.path.len c.pop.new.self.len c.pop.ensures.kept c.pop.ensures.height w.way;
       shares = omega (arith, w.shares, c.pop.ensures.height);
