@@ -4,17 +4,18 @@
 --   kept, cut, over   what a field's reading amounts to after one more place, where that place is refused, and after the last
 --   low, more         how large a number of k digits is
 --   numbers, counts, blanks                  the readings of the three kinds of field
+--   firsts, firsts_all                       that of the first five places of a row count, and that these are all of its places
 --   marks_split                              the ten places of a row count are its first five and then its last five
 --   last_kept, last_cut                      the last two places of a number
---   short_number, blank_count, blank_field   a field whose first three, or all five, places are blank
-use Rattle.std.proofs.Common.{◌≡◌, ℕ, suc, ◌+◌, ◌-◌, ◌*◌, ◌^◌, ◌<◌, ◌≤◌, Bool, true, false, cond, not, ◌&&◌, ◌||◌, eqb, List, ℤ, Ok, Err, Result, sym, refl, ap, ◌∙◌, arith}
+--   short_number, blank_marks, blank_field   a field whose first three, or all five, places are blank
+use Rattle.std.proofs.Common.{◌≡◌, ℕ, zero, suc, ◌+◌, ◌-◌, ◌*◌, ◌^◌, ◌<◌, ◌≤◌, Bool, true, false, cond, not, ◌&&◌, ◌||◌, eqb, List, ℤ, Ok, Err, Result, sym, refl, ap, ◌∙◌, arith}
 use native.Mathlib.Nat.{pow-le-pow_right}
 use Rattle.std.proofs.lemmas.Grind.{pow_more}
 use Rattle.std.proofs.lemmas.Bool.Decides.{nat_tests}
 use Rattle.lines.specs.declared.line.BadByte.{BadByte}
 use Rattle.lines.specs.Read.{bad, then, byte, is_digit, digit_may, blank_may, number_from, number_at, count_from, count_at, blank_from, unused_at}
-use Rattle.lines.proofs.Steps.{number_blank, count_blank, blank_more, blank_done}
-use Rattle.columns.specs.Place.{place_at, mark_at, marks_left, blank_at, Blank}
+use Rattle.lines.proofs.Steps.{number_blank, blank_more, blank_done}
+use Rattle.columns.specs.Place.{place_at, mark_at, first_marks_at, marks_left, blank_at, Blank}
 
 -- a field's reading from the place i on, where k more places are to come and s is what those before tell
 pub record Reading (S X : Type 0) : Type 0 where
@@ -69,6 +70,10 @@ then_same : {X Y : Type 0} (r : Result X BadByte) (f g : X → Result Y BadByte)
 then_same (Ok x) f g h = h x
 then_same (Err b) f g h = refl
 
+then_ok : {X : Type 0} (r : Result X BadByte) → then r Ok ≡ r
+then_ok (Ok x) = refl
+then_ok (Err b) = refl
+
 module _ (text : List ℕ) where
   pub number_step : (i j k v : ℕ) → j ≡ i + 1
       → number_from text i (suc k) v ≡ then (place_at text i k v) (λ w. number_from text j k w)
@@ -119,18 +124,33 @@ module _ (text : List ℕ) where
       ∙ then_same (mark_at text i k s) (λ w. then (front w) rest) (λ w. count_on j k w) split
       ∙ sym (count_step i j k s e)
 
-  -- the first five places of the row count at i
-  abbrev pub first_marks : ℕ → Result (Bool × ℕ) BadByte
-  first_marks i = then (mark_at text i 9 (false, 0)) (λ a. then (mark_at text (i + 1) 8 a) (λ b. then (mark_at text (i + 2) 7 b)
-      (λ c. then (mark_at text (i + 3) 6 c) (λ d. mark_at text (i + 4) 5 d))))
-
-  pub marks_split : (i : ℕ) → then (first_marks i) (marks_left text i) ≡ count_at text i
+  pub marks_split : (i : ℕ) → then (first_marks_at text i) (marks_left text i) ≡ count_at text i
   marks_split i =
       count_more i (i + 1) 9 (false, 0) (marks_left text i) _ refl (λ a.
       count_more (i + 1) (i + 2) 8 a (marks_left text i) _ (omega arith) (λ b.
       count_more (i + 2) (i + 3) 7 b (marks_left text i) _ (omega arith) (λ c.
       count_more (i + 3) (i + 4) 6 c (marks_left text i) _ (omega arith) (λ d.
       sym (count_step (i + 4) (i + 5) 5 d (omega arith))))))
+
+  -- the last k of the first five places, from the place i on
+  abbrev pub firsts_from : ℕ → ℕ → Bool × ℕ → Result (Bool × ℕ) BadByte
+  firsts_from i zero s = Ok s
+  firsts_from i (suc k) s = then (mark_at text i (k + 5) s) (λ w. firsts_from (i + 1) k w)
+
+  pub firsts_step : (i j k : ℕ) (s : Bool × ℕ) → j ≡ i + 1
+      → firsts_from i (suc k) s ≡ then (mark_at text i (k + 5) s) (λ w. firsts_from j k w)
+  firsts_step i j k s e = ap (λ n. then (mark_at text i (k + 5) s) (λ w. firsts_from n k w)) (sym e)
+
+  abbrev pub firsts : Reading (Bool × ℕ) (Bool × ℕ)
+  firsts = record { from = firsts_from; one = λ i k s. mark_at text i (k + 5) s; step = firsts_step }
+
+  pub firsts_all : (i : ℕ) → first_marks_at text i ≡ firsts_from i 5 (false, 0)
+  firsts_all i = sym
+      (firsts_step i (i + 1) 4 (false, 0) refl ∙ then_same _ _ _ (λ a.
+      firsts_step (i + 1) (i + 2) 3 a (omega arith) ∙ then_same _ _ _ (λ b.
+      firsts_step (i + 2) (i + 3) 2 b (omega arith) ∙ then_same _ _ _ (λ c.
+      firsts_step (i + 3) (i + 4) 1 c (omega arith) ∙ then_same _ _ _ (λ d.
+      then_ok (mark_at text (i + 4) 5 d))))))
 
   pub blank_step : (i j k : ℕ) (u : Unit {0}) → j ≡ i + 1
       → blank_from text i (suc k) ≡ then (blank_at text i) (λ _. blank_from text j k)
@@ -156,19 +176,8 @@ module _ (text : List ℕ) where
       ∙ number_past (i + 1) (i + 2) 2 (omega arith) b
       ∙ number_past (i + 2) (i + 3) 1 (omega arith) c
 
-  count_past : (i j k : ℕ) → j ≡ i + 1 → byte text i ≡ 32
-      → count_from text i (suc (suc k)) false 0 ≡ count_from text j (suc k) false 0
-  count_past i j k e b =
-      count_blank text i (suc k) false 0 (grind (arith, nat_tests)) (grind (arith, nat_tests))
-      ∙ ap (λ n. count_from text n (suc k) false 0) (sym e)
-
-  pub blank_count : (i : ℕ) → Blank text i → count_at text i ≡ count_from text (i + 5) 5 false 0
-  blank_count i b =
-      count_past i (i + 1) 8 refl b.first
-      ∙ count_past (i + 1) (i + 2) 7 (omega arith) b.second
-      ∙ count_past (i + 2) (i + 3) 6 (omega arith) b.third
-      ∙ count_past (i + 3) (i + 4) 5 (omega arith) b.fourth
-      ∙ count_past (i + 4) (i + 5) 4 (omega arith) b.fifth
+  pub blank_marks : (i : ℕ) → Blank text i → first_marks_at text i ≡ Ok (false, 0)
+  blank_marks i b = rw (b.first, b.second, b.third, b.fourth, b.fifth) refl
 
   blank_past : (i j k : ℕ) → j ≡ i + 1 → byte text i ≡ 32 → blank_from text i (suc k) ≡ blank_from text j k
   blank_past i j k e b = blank_more text i k (rw b refl) ∙ ap (λ n. blank_from text n k) (sym e)

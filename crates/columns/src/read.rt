@@ -1,8 +1,8 @@
 //! Reading one line: the line, or the first byte that no line begun so can have.
 ghost use Rattle.std.specs.Prelude.{◌≡◌, ◌+◌, ◌-◌, ◌*◌, ◌<◌, ◌≤◌, true, length, IfOk, OnOk, slice_index};
-ghost use Rattle.lines.specs.Read.{byte as the_byte, then, number_from, number_at, count_at, unused_at, optional_at, fields_at, line_at, signed};
+ghost use Rattle.lines.specs.Read.{byte as the_byte, number_from, number_at, count_at, unused_at, optional_at, fields_at, line_at, signed};
 ghost use Rattle.lines.specs.Form.{LineRead};
-ghost use Rattle.columns.specs.Place.{place_at, mark_at, marks_left, blank_at, Blank};
+ghost use Rattle.columns.specs.Place.{place_at, mark_at, first_marks_at, blank_at, Blank};
 
 use lines::line::{BadByte, Fields, Layout, Line};
 use std::marker::Model;
@@ -153,7 +153,7 @@ impl<'a> Field<'a> {
 
     /// The first five characters of a row count. Most counts have at most five digits.
     fn first_marks(self) -> Result<Count, BadByte>
-        ensures rest { count_at self.entry.text.now self.entry.at ≡ then result (marks_left self.entry.text.now self.entry.at) }
+        ensures answer { result ≡ first_marks_at self.entry.text.now self.entry.at }
         ensures small { IfOk result (λ s. s.1 ≤ 99999) }
     {
         let mut s = Count {

@@ -1,13 +1,27 @@
-use Rattle.std.proofs.Common.{◌≡◌, ◌+◌, Ok, Err, sym, ap, ◌∙◌, arith, rules}
+use Rattle.std.proofs.Common.{◌≡◌, ℕ, ◌+◌, Bool, List, Ok, Err, Result, sym, ap, ◌∙◌, arith, rules}
 use Rattle.std.proofs.lemmas.Result.{err_from_is_err_and}
-use Rattle.lines.specs.Read.{count_at}
+use Rattle.lines.specs.declared.line.BadByte.{BadByte}
+use Rattle.lines.specs.Read.{then, count_at}
 use Rattle.lines.proofs.Steps.{count_done}
-use Rattle.columns.proofs.Chains.{kept, cut, over, low, more, counts}
+use Rattle.columns.specs.Place.{first_marks_at, marks_left}
+use Rattle.columns.proofs.Chains.{kept, cut, over, low, more, counts, marks_split}
 use Rattle.columns.proofs.read.Field.count.Goals as goal
+
+-- the ten places are the first five, and then the last five
+by_parts : (text : List ℕ) (at : ℕ) (r : Result (Bool × ℕ) BadByte) → r ≡ first_marks_at text at → count_at text at ≡ then r (marks_left text at)
+by_parts text at r is = sym (ap (λ q. then q (marks_left text at)) is ∙ marks_split text at)
+
+pub returns-in_err-s : goal.returns-in_err-s
+returns-in_err-s c =
+    let text = c.args.self.text.now in
+    let at = c.args.self.at in
+    let p = err_from_is_err_and c.from_residual.result c.from_residual.ensures.1 in
+    let refused = by_parts text at (Err c.in_err-s.field-0.0) c.in_err-s.ensures.answer in
+    p.1 ∙ ap Err p.2 ∙ sym refused
 
 pub loop-k-init : goal.loop-k-init
 loop-k-init c = record {
-  rest = c.in_ok-s.ensures.rest;
+  rest = by_parts c.args.self.text.now c.args.self.at (Ok c.in_ok-s.s) c.in_ok-s.ensures.answer;
   small = let h = c.in_ok-s.ensures.small in omega arith;
   below = λ e. absurd (omega arith);
 }
