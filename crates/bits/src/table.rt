@@ -57,6 +57,10 @@ impl BitTable {
         requires { (a < self.old.count) × ((b < self.old.count) × ((a ≢ b) × ((rows_graph self.old.count self.old.rows).adj a b ≡ false))) }
         ensures { rows_graph self.new.count self.new.rows ≡ joining (rows_graph self.old.count self.old.rows) a b }
     {
+        // so that the compiler need not test it in each row and set below
+        if a >= 64 || b >= 64 {
+            unreachable!();
+        }
         self.rows.join(a, b);
         self.joins += 1;
     }

@@ -2,7 +2,7 @@
 --
 --   part_in tables rows  the part with the tables of a set in use, and the joins of rows
 --   Symmetric J          the joins go both ways
---   Without u l J K      the joins K are those of J, without those of u with the tables l
+--   Without u l J K      the rows K are those of J, without u in the rows of the tables l
 --   others J u f a       u's neighbours other than f and a, in rising number
 --   away_in s            the tables to take away in the order of survey s: all but the last three that the search left
 --   taken_of s u p, noted_of s u p
@@ -14,7 +14,7 @@
 --   Lays s t l           the stack t is s with the records l laid on top, as many of them, from the first on, as there is room for
 --   corners_of U         the triangle of the three lowest tables of U
 --   list_laid notes l    the records l with the notes, as many of them as there are records, laid in reverse over the first of them
-use Rattle.std.specs.Prelude.{◌≡◌, ℕ, ◌+◌, ◌-◌, min, Bool, false, not, ◌&&◌, ◌||◌, Some, None, Option, List, [], ◌∷◌, ◌++◌, length, take, drop, ◌==◌, slice_set}
+use Rattle.std.specs.Prelude.{◌≡◌, ℕ, ◌+◌, ◌-◌, min, Bool, false, not, ◌&&◌, Some, None, Option, List, [], ◌∷◌, ◌++◌, length, take, drop, ◌==◌, slice_set}
 use Rattle.theory.specs.Build.{Part}
 use Rattle.theory.specs.declared.step.Step.{Step}
 use Rattle.theory.specs.declared.step.Triangle.{Triangle}
@@ -35,7 +35,7 @@ abbrev pub Symmetric : (ℕ → ℕ → Bool) → Type 0
 Symmetric J = (x y : ℕ) → J x y ≡ J y x
 
 abbrev pub Without : ℕ → List ℕ → (ℕ → ℕ → Bool) → (ℕ → ℕ → Bool) → Type 0
-Without u l J K = (x y : ℕ) → K x y ≡ (not ((u == x && has l y) || (u == y && has l x)) && J x y)
+Without u l J K = (x y : ℕ) → K x y ≡ (not (u == y && has l x) && J x y)
 
 unfoldable pub others : (ℕ → ℕ → Bool) → ℕ → ℕ → ℕ → List ℕ
 others J u f a = passing (other u f a (part_of (λ _. false) J))

@@ -91,14 +91,13 @@ fn lay_any(note: Option<Step>, notes: &mut Stack<Step>)
     }
 }
 
-/// Takes the joins of `u` with the tables of a set out, and notes them, in rising number.
+/// Takes `u` out of the rows of the tables of a set, and notes its joins with them, in rising number.
 fn strip_others(rows: &mut Rows, u: u32, others: TableSet, notes: &mut Stack<Step>)
-    requires { u < 64 }
     ensures joins { Without u (tables_of others) (in_row rows.old) (in_row rows.new) }
     ensures notes { Lays notes.old notes.new (edges u (tables_of others)) }
 {
     for v in others.tables() {
-        rows.unjoin(u, v);
+        rows.remove(v, u);
         lay(edge(u, v), notes);
     }
 }
@@ -111,8 +110,9 @@ fn strip(rows: &mut Rows, u: u32, f: u32, a: u32, notes: &mut Stack<Step>)
     ensures notes { Lays notes.old notes.new (edges u (others (in_row rows.old) u f a)) }
 {
     strip_others(rows, u, rows.row(u).without(f).without(a), notes);
-    rows.unjoin(u, f);
-    rows.unjoin(u, a);
+    rows.remove(f, u);
+    rows.remove(a, u);
+    rows.clear(u);
 }
 
 // stays: the notes go beside the part; a struct of both would stand before each in every clause.
@@ -126,6 +126,10 @@ impl Part {
     {
         let f = survey.found[u as usize].parent;
         let a = nearest(self.rows.row(u), &survey.found, f);
+        // so that the compiler need not test it in each row and set below
+        if u >= 64 || f >= 64 || a >= 64 {
+            unreachable!();
+        }
         let ends = self.rows.joined(f, a).then_some(edge(f, a));
         strip(&mut self.rows, u, f, a, notes);
         lay_any(ends, notes);

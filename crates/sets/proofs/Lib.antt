@@ -4,3 +4,4 @@ pub mod Number
 pub mod Cleared
 pub mod Masks
 pub mod Pairs
+pub mod Single

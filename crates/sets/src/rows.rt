@@ -1,5 +1,5 @@
 //! Rows: for each of 64 tables a set of tables.
-ghost use Rattle.std.specs.Prelude.{◌≡◌, ℕ, ◌<◌, ◌≤◌, ◌||◌, ◌&&◌, not, nat_lt, length, replicate, slice_index, slice_set};
+ghost use Rattle.std.specs.Prelude.{◌≡◌, ℕ, ◌||◌, ◌&&◌, cond, not, ◌==◌, nat_lt, length, replicate, slice_index, slice_set};
 ghost use Rattle.theory.specs.Graph.{same_pair};
 ghost use Rattle.sets.specs.Set.{bit};
 ghost use Rattle.sets.specs.Rows.{in_row};
@@ -8,7 +8,7 @@ use super::set::TableSet;
 use std::marker::Model;
 
 /// For each table a row, which is the set of the tables that it is joined with. To a contract it is the list of the rows.
-#[derive(Clone, Copy)]
+#[derive(Clone, Copy, PartialEq, Eq, Debug)]
 pub struct Rows {
     rows: [TableSet; 64],
 }
@@ -23,14 +23,14 @@ impl Model for Rows {
     ghost inverse = { λ l. record { rows = l } };
 }
 
-/// Puts two rows in place of those of two tables.
-fn replace(rows: &mut [TableSet; 64], a: u32, first: TableSet, b: u32, second: TableSet)
-    requires { (a < 64) × (b < 64) }
-    ensures rows { rows.new ≡ slice_set (slice_set rows.old a first) b second }
+/// Puts a row in place of that of a table. Where the number is no table, nothing changes.
+fn replace(rows: &mut [TableSet; 64], a: u32, row: TableSet)
+    ensures rows { rows.new ≡ cond (nat_lt a 64) (slice_set rows.old a row) rows.old }
     ensures long { length rows.old ≡ 64 }
 {
-    rows[a as usize] = first;
-    rows[b as usize] = second;
+    if a < 64 {
+        rows[a as usize] = row;
+    }
 }
 
 impl Rows {
@@ -41,6 +41,13 @@ impl Rows {
         Rows {
             rows: [TableSet::new(); 64],
         }
+    }
+
+    /// All 64 rows.
+    pub fn to_array(&self) -> [TableSet; 64]
+        ensures { result ≡ self.now }
+    {
+        self.rows // as they are
     }
 
     /// The row of a table, which is empty for a number that is none.
@@ -60,30 +67,50 @@ impl Rows {
         self.row(a).contains(b)
     }
 
+    /// Puts table `b` into the row of table `a`. Where one of the numbers is no table, nothing changes.
+    // stays: `remove` differs in the operation on a set, and so do `join` and `unjoin`. One function over both would take that as a
+    // closure, and its contract would say once more what `with` and `without` promise
+    pub fn insert(&mut self, a: u32, b: u32)
+        ensures { (x y : ℕ) → in_row self.new x y ≡ (((nat_lt a 64 && nat_lt b 64) && (a == x && b == y)) || in_row self.old x y) }
+    {
+        let row = self.row(a).with(b);
+        replace(&mut self.rows, a, row);
+    }
+
+    /// Takes table `b` out of the row of table `a`. Where one of the numbers is no table, nothing changes.
+    // stays: see `insert`
+    pub fn remove(&mut self, a: u32, b: u32)
+        ensures { (x y : ℕ) → in_row self.new x y ≡ (not (a == x && b == y) && in_row self.old x y) }
+    {
+        let row = self.row(a).without(b);
+        replace(&mut self.rows, a, row);
+    }
+
+    /// Takes all tables out of the row of a table.
+    pub fn clear(&mut self, a: u32)
+        ensures { (x y : ℕ) → in_row self.new x y ≡ (not (a == x) && in_row self.old x y) }
+    {
+        replace(&mut self.rows, a, TableSet::new());
+    }
+
     /// Puts each of two tables into the other's row. Where one of the numbers is no table, nothing changes.
-    // stays: `unjoin` differs in the operation on a set. One function over both would take that as a closure, and its contract would
-    // say once more what `with` and `without` promise
+    // stays: see `insert`
     pub fn join(&mut self, a: u32, b: u32)
         ensures { (x y : ℕ) → in_row self.new x y ≡ (((nat_lt a 64 && nat_lt b 64) && same_pair a b x y) || in_row self.old x y) }
     {
-        if a >= 64 || b >= 64 {
-            return;
-        }
-        let first = self.row(a).with(b);
-        let second = self.row(b).with(a);
-        replace(&mut self.rows, a, first, b, second);
+        self.insert(a, b);
+        self.insert(b, a);
     }
 
     /// Takes each of two tables out of the other's row. Where one of the numbers is no table, nothing changes.
-    // stays: see `join`
+    // stays: see `insert`
     pub fn unjoin(&mut self, a: u32, b: u32)
         ensures { (x y : ℕ) → in_row self.new x y ≡ (not ((nat_lt a 64 && nat_lt b 64) && same_pair a b x y) && in_row self.old x y) }
     {
         if a >= 64 || b >= 64 {
             return;
         }
-        let first = self.row(a).without(b);
-        let second = self.row(b).without(a);
-        replace(&mut self.rows, a, first, b, second);
+        self.remove(a, b);
+        self.remove(b, a);
     }
 }

@@ -19,9 +19,9 @@ pub struct Survey {
     /// Where all tables were discovered: the articulation tables; else none.
     pub articulations: TableSet,
     /// Each parent is below 64.
-    pub ghost small: { (x : ℕ) → parent_in found x < 64 },
+    ghost small: { (x : ℕ) → parent_in found x < 64 },
     /// So is each table left.
-    pub ghost low: { (x : ℕ) → slice_index (tables_in left) x < 64 },
+    ghost low: { (x : ℕ) → slice_index (tables_in left) x < 64 },
     /// No table is left twice.
-    pub ghost few: { length (tables_in left) ≤ 64 },
+    ghost few: { length (tables_in left) ≤ 64 },
 }

@@ -1,6 +1,6 @@
 //! A table of bits as a whole: made without joins, or from any readable graph by its questions alone, and given out.
 //! stays: the graph is the caller's, and its tables are asked for one by one, so both are arguments.
-ghost use Rattle.std.specs.Prelude.{◌≡◌, ℕ, ◌+◌, ◌<◌};
+ghost use Rattle.std.specs.Prelude.{◌≡◌, ℕ, ◌+◌, ◌<◌, length};
 ghost use Rattle.theory.specs.Graph.{table_count, is_table, size, no_joins, clamped};
 ghost use Rattle.sets.specs.Set.{bit};
 ghost use Rattle.bits.specs.Table.{graph_of, rows_of};
@@ -55,9 +55,12 @@ impl BitTable {
 
     /// The rows: in row `a` are the tables that table `a` is joined with.
     pub fn rows(&self) -> Rows
-        ensures { result ≡ rows_of self.now }
+        ensures is { result ≡ rows_of self.now }
+        // one for each of 64 tables
+        ensures long { length result ≡ 64 }
     {
-        self.rows
+        let _ = self.rows.to_array();
+        self.rows // a copy
     }
 
     /// The number of joins.

@@ -14,7 +14,7 @@ use Rattle.assembly.proofs.build.lay.Goals as goal
 pub invariant_of-part : goal.invariant_of-part
 invariant_of-part c =
     let m = rows_graph c.args.graph.now.count c.args.graph.now.rows in
-    let same : (x y : ℕ) → in_row c.rows.result x y ≡ joined m x y = λ x y. ap (λ rows. in_row rows x y) c.rows.ensures in
+    let same : (x y : ℕ) → in_row c.rows.result x y ≡ joined m x y = λ x y. ap (λ rows. in_row rows x y) c.rows.ensures.is in
     record { symmetric = λ x y. same x y ∙ c.args.graph.now.symmetric x y ∙ sym (same y x) }
 
 pub returns : goal.returns
@@ -25,7 +25,7 @@ returns c =
     let tells = c.requires.surveyed.tells in
     let tables = c.all_tables.result in
     let rows = c.rows.result in
-    let same : (x y : ℕ) → in_row rows x y ≡ joined m x y = λ x y. ap (λ l. in_row l x y) c.rows.ensures in
+    let same : (x y : ℕ) → in_row rows x y ≡ joined m x y = λ x y. ap (λ l. in_row l x y) c.rows.ensures.is in
     let long = given_length p c.args.found.now tells (is_table m) (joined m) tables rows c.all_tables.ensures same in
     record {
       triangle = c.lay_list.ensures.triangle ∙ given_triangle p c.args.found.now tells (is_table m) (joined m) tables rows c.all_tables.ensures same;

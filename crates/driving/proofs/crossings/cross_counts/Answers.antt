@@ -37,7 +37,7 @@ sums-requires c =
       t,
       cross_count m t,
       sums_so m t c.rows-joins.result c.rows-marked.result c.args.survey.now c.requires.0 c.requires.1
-          (λ x y. ap (λ (l : List ℕ). in_row l x y) c.rows-joins.ensures) (λ x y. ap (λ (l : List ℕ). in_row l x y) c.rows-marked.ensures)
+          (λ x y. ap (λ (l : List ℕ). in_row l x y) c.rows-joins.ensures.is) (λ x y. ap (λ (l : List ℕ). in_row l x y) c.rows-marked.ensures.is)
           c.subtrees_of-trees.result (c.subtrees_of-trees.ensures m t) c.tables.result c.counters-counters.result c.tables.ensures c.counters-counters.ensures,
     )
 
@@ -46,6 +46,6 @@ returns c = λ x xn.
     let m = graph_of c.args.graph.now in
     let t = graph_of c.args.marks.now in
     let sums = sums_so m t c.rows-joins.result c.rows-marked.result c.args.survey.now c.requires.0 c.requires.1
-    (λ x y. ap (λ (l : List ℕ). in_row l x y) c.rows-joins.ensures) (λ x y. ap (λ (l : List ℕ). in_row l x y) c.rows-marked.ensures)
+    (λ x y. ap (λ (l : List ℕ). in_row l x y) c.rows-joins.ensures.is) (λ x y. ap (λ (l : List ℕ). in_row l x y) c.rows-marked.ensures.is)
     c.subtrees_of-trees.result (c.subtrees_of-trees.ensures m t) c.tables.result c.counters-counters.result c.tables.ensures c.counters-counters.ensures in
     c.sums.ensures t (cross_count m t) sums x (subst (λ k. x < k) (sym c.requires.0.same) xn)

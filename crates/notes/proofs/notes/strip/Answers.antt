@@ -14,9 +14,9 @@ returns-clause-joins c =
     let f = c.args.f in
     let a = c.args.a in
     let k = c.without-2.result in
-    all_out (in_row rows) _ _ _ u f a (tables_of k) c.requires.symmetric c.requires.tables.0 c.requires.tables.1.0 c.requires.tables.1.1
+    all_out (in_row rows) _ _ _ _ u f a (tables_of k) c.requires.symmetric
     (others_has rows u f a c.row.result c.without.result k c.row.ensures c.without.ensures c.without-2.ensures (omega arith))
-    c.strip_others.ensures.joins c.unjoin.ensures c.unjoin-2.ensures
+    c.strip_others.ensures.joins c.remove.ensures c.remove-2.ensures c.clear.ensures
 
 pub returns-clause-notes : goal.returns-clause-notes
 returns-clause-notes c =

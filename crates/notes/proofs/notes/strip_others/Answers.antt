@@ -3,7 +3,6 @@ use Rattle.std.proofs.lemmas.List.{append-nil}
 use Rattle.theory.specs.declared.step.Step.{Step}
 use Rattle.sets.specs.Set.{tables_of}
 use Rattle.sets.specs.Rows.{in_row}
-use Rattle.sets.proofs.Masks.{first_below}
 use Rattle.disassembly.specs.Disassembly.{edges}
 use Rattle.notes.specs.Notes.{Without}
 use Rattle.notes.proofs.Poured.{lays_as, lays_more}
@@ -18,8 +17,7 @@ loop-v-preserved c =
     let left = tables_of c.next.new.self.left in
     record {
       whole = append_assoc done (v ∷ []) left ∙ ap (λ l. done ++ l) (sym c.in-Some.ensures.steps) ∙ c.loop-v.invariant.whole;
-      joins = without_more (in_row c.args.rows.now) (in_row c.loop-v.rows) _ u v done c.requires (first_below c.loop-v.v-iterator.left v left c.in-Some.ensures.steps)
-          c.loop-v.invariant.joins c.unjoin.ensures;
+      joins = without_more (in_row c.args.rows.now) (in_row c.loop-v.rows) _ u v done c.loop-v.invariant.joins c.remove.ensures;
       notes = lays_as c.args.notes.now c.lay.new.notes (edges u done ++ (c.edge.result ∷ [])) (edges u (done ++ (v ∷ [])))
           (ap (λ (x : Step). edges u done ++ (x ∷ [])) c.edge.ensures ∙ edges_more u v done)
           (lays_more c.args.notes.now c.loop-v.notes c.lay.new.notes (edges u done) (c.edge.result ∷ []) c.loop-v.invariant.notes c.lay.ensures);

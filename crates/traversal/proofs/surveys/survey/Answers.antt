@@ -32,7 +32,7 @@ articulations-survey-requires c =
     let simple = simple_of g in (
       is_table m,
       start,
-      whole_search g.count g.rows c.rows.result simple c.rows.ensures start (let some = g.some in omega arith) c.search-survey.result c.search-survey.ensures
+      whole_search g.count g.rows c.rows.result simple c.rows.ensures.is start (let some = g.some in omega arith) c.search-survey.result c.search-survey.ensures
           (none_left c.search-survey.result.unreached c.is_empty.result c.if-not-is_empty.false c.is_empty.ensures),
     )
 
@@ -43,8 +43,8 @@ returns c =
     let start = min c.args.start (m.tables - 1) in
     let s = c.search-survey.result in
     let none = none_left s.unreached c.is_empty.result c.if-not-is_empty.false c.is_empty.ensures in
-    let whole = whole_search g.count g.rows c.rows.result (simple_of g) c.rows.ensures start (let some = g.some in omega arith) s c.search-survey.ensures none in
+    let whole = whole_search g.count g.rows c.rows.result (simple_of g) c.rows.ensures.is start (let some = g.some in omega arith) s c.search-survey.ensures none in
     surveyed (is_table m) (joined m) start s c.search-survey.ensures _ refl refl refl
-    (λ _. subst (λ (l : List ℕ). (x : ℕ) → bit c.articulations-survey.result x ≡ separates (is_table m) (in_row l) x) c.rows.ensures
+    (λ _. subst (λ (l : List ℕ). (x : ℕ) → bit c.articulations-survey.result x ≡ separates (is_table m) (in_row l) x) c.rows.ensures.is
     (c.articulations-survey.ensures (is_table m) start whole))
     (λ some. absurd (some none))

@@ -1,11 +1,8 @@
-use Rattle.std.proofs.Common.{ap, ◌∙◌, arith}
+use Rattle.std.proofs.Common.{arith}
 use Rattle.sets.specs.Rows.{in_row}
-use Rattle.sets.proofs.Pairs.{unjoined_rows}
+use Rattle.sets.proofs.Single.{both_out}
 use Rattle.sets.proofs.rows.Rows.unjoin.Goals as goal
 
 pub returns : goal.returns
 returns c = λ x y.
-    let rows = c.self.inside.rows in
-    ap (λ r. in_row r x y) c.replace.ensures.rows
-    ∙ rw (← c.self.view_is) (unjoined_rows rows c.args.a c.args.b c.without-first.result c.without-second.result (omega (arith, c.replace.ensures.long)) (omega arith) (omega arith)
-    (rw (c.self.view_is, ← c.row.ensures) c.without-first.ensures) (rw (c.self.view_is, ← c.row-2.ensures) c.without-second.ensures) x y)
+    both_out c.args.a c.args.b x y (in_row c.args.self.now x y) (in_row c.remove.new.self x y) (in_row c.remove-2.new.self x y) (c.remove.ensures x y) (c.remove-2.ensures x y) (omega arith) (omega arith)
